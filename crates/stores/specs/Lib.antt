@@ -1,0 +1,4 @@
+pub mod Keyed
+pub mod Provider
+pub mod Operations
+pub mod Copying

@@ -1,0 +1,4 @@
+// What a provider is: a map with a capacity, behind one set of operations that every make of provider has.
+
+pub mod store;
+pub mod stored;

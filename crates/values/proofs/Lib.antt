@@ -1,0 +1,4 @@
+mod Padding
+mod Coding
+mod LittleEndian
+mod HoldCoding

@@ -98,6 +98,37 @@ module _ {A : Type 0} (key : A → ℕ) where
       cond-false (eqb (key x) k) (without key k xs) (x ∷ without key k xs) p ∙ ap (λ ys. x ∷ ys) (without-absent k xs n))
       (cases-bool (eqb (key x) k))
 
+module _ {A : Type 0} (key : A → ℕ) where
+  pub length-put : (n : A) (xs : List A) → ascending (map key xs) ≡ true → length (put key n xs) ≡ length xs + cond (isSome (find key (key n) xs)) 0 1
+  length-put n [] asc = refl
+  length-put n (x ∷ xs) asc =
+      let a = and-parts (headed (key x) (map key xs)) (ascending (map key xs)) asc in
+      let ih = length-put n xs (a .1) in
+      ⊎-elim
+      (λ p. let l = ltb-true (key x) (key n) p in
+      let q : eqb (key x) (key n) ≡ false = ne-eqb (key x) (key n) (λ e. omega arith) in
+      rw (p, q) (omega arith))
+      (λ p. let l = ltb-false (key x) (key n) p in
+      ⊎-elim
+      (λ q. let f : put key n (x ∷ xs) ≡ n ∷ xs = cond-false (ltb (key x) (key n)) (x ∷ put key n xs) (n ∷ cond (eqb (key x) (key n)) xs (x ∷ xs)) p ∙ ap (λ ys. n ∷ ys) (cond-true (eqb (key x) (key n)) xs (x ∷ xs) q) in
+      let m : find key (key n) (x ∷ xs) ≡ Some x = cond-true (eqb (key x) (key n)) (Some x) (find key (key n) xs) q in
+      ap length f ∙ sym (ap (λ o. length (x ∷ xs) + cond (isSome o) 0 1) m ∙ (let z : length (x ∷ xs) + 0 ≡ suc (length xs) = omega arith in z)))
+      (λ q. let e = eqb-false (key x) (key n) q in
+      let m : find key (key n) (x ∷ xs) ≡ None = find-below key (key n) (x ∷ xs) (lt-ltb (key n) (key x) (below (key n) (key x) l e)) asc in
+      let f : put key n (x ∷ xs) ≡ n ∷ (x ∷ xs) = cond-false (ltb (key x) (key n)) (x ∷ put key n xs) (n ∷ cond (eqb (key x) (key n)) xs (x ∷ xs)) p ∙ ap (λ ys. n ∷ ys) (cond-false (eqb (key x) (key n)) xs (x ∷ xs) q) in
+      ap length f ∙ sym (ap (λ o. length (x ∷ xs) + cond (isSome o) 0 1) m ∙ (let z : length (x ∷ xs) + 1 ≡ suc (suc (length xs)) = omega arith in z)))
+      (cases-bool (eqb (key x) (key n))))
+      (cases-bool (ltb (key x) (key n)))
+    where
+      below : (a b : ℕ) → a ≤ b → (b ≡ a → ⊥) → a < b
+      below a b le ne = omega arith
+
+  pub length-without-le : (k : ℕ) (xs : List A) → length (without key k xs) ≤ length xs
+  length-without-le k [] = omega arith
+  length-without-le k (x ∷ xs) =
+      let ih = length-without-le k xs in
+      ⊎-elim (λ p. rw p (omega arith)) (λ p. rw p (omega arith)) (cases-bool (eqb (key x) k))
+
 -- a function of a choice
 pub cond-map : {A B : Type 0} (f : A → B) (b : Bool) (x y : A) → f (cond b x y) ≡ cond b (f x) (f y)
 cond-map f true x y = refl

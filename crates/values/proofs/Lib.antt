@@ -1,4 +1,5 @@
+pub mod LittleEndian
+pub mod Ranks
 mod Padding
 mod Coding
-mod LittleEndian
 mod HoldCoding

@@ -1,8 +1,8 @@
 // Reads secrets from standard input into one provider, copies that provider into another, and says what it did.
 mod parse;
 
-use parse::parse;
 use parse::Request;
+use parse::parse;
 use std::io;
 use std::io::BufRead;
 use std::io::BufReader;
@@ -41,9 +41,17 @@ fn keep<S: Store<Secret>>(store: &mut S, request: Request) -> Result<Outcome, Re
 }
 
 // Stores the request in a line, and says what became of it unless it is a new key. Whether a secret was read.
-fn load_line<S: Store<Secret>>(rt: &LibcRuntime, store: &mut S, number: usize, line: &[u8]) -> io::Result<bool> {
+fn load_line<S: Store<Secret>>(
+    rt: &LibcRuntime,
+    store: &mut S,
+    number: usize,
+    line: &[u8],
+) -> io::Result<bool> {
     let Some(request) = parse(line) else {
-        println!(rt, "line {number}: skipped: not of the form NUMBER SEAT TEXT")?;
+        println!(
+            rt,
+            "line {number}: skipped: not of the form NUMBER SEAT TEXT"
+        )?;
         return Ok(false);
     };
     let Key { number: n, seat } = request.key;
@@ -84,7 +92,12 @@ fn same_at<S: Store<Secret>, T: Store<Secret>>(one: &S, two: &T, key: Key) -> bo
 }
 
 // Compares two providers at each of these keys, and prints each key.
-fn compare<S: Store<Secret>, T: Store<Secret>>(rt: &LibcRuntime, one: &S, two: &T, keys: &[Key]) -> io::Result<()> {
+fn compare<S: Store<Secret>, T: Store<Secret>>(
+    rt: &LibcRuntime,
+    one: &S,
+    two: &T,
+    keys: &[Key],
+) -> io::Result<()> {
     let mut different = 0usize;
     for key in keys {
         let Key { number, seat } = *key;
@@ -100,19 +113,29 @@ fn compare<S: Store<Secret>, T: Store<Secret>>(rt: &LibcRuntime, one: &S, two: &
     if different == 0 && first == second {
         println!(rt, "the copies agree")
     } else {
-        println!(rt, "THE COPIES DIFFER: {different} keys, {first} keys against {second}")
+        println!(
+            rt,
+            "THE COPIES DIFFER: {different} keys, {first} keys against {second}"
+        )
     }
 }
 
 fn main(rt: LibcRuntime) -> io::Result<()> {
-    let blank = Entry { key: Key::STANDING, version: Version::NONE, value: SecretKind::blank() };
+    let blank = Entry {
+        key: Key::STANDING,
+        version: Version::NONE,
+        value: SecretKind::blank(),
+    };
     let mut first = [blank; CAPACITY];
     let mut second = [blank; CAPACITY];
     let mut from = Table::new(&mut first);
     let mut to = Table::new(&mut second);
     let secrets = load(&rt, &mut from)?;
     let count = from.count();
-    println!(rt, "{secrets} secrets read; {count} keys in the first provider")?;
+    println!(
+        rt,
+        "{secrets} secrets read; {count} keys in the first provider"
+    )?;
     let mut keys = [Key::STANDING; CAPACITY];
     match copy(&from, &mut to, &mut keys) {
         Err(refusal) => {

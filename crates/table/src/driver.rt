@@ -48,6 +48,12 @@ impl<'a, V: Kind> Sheet<'a, V> {
 }
 
 impl<'a, V: Kind> Table<'a, V> {
+    fn used_entries(&self) -> &[Entry<V>]
+        ensures { λ r. ⌜ now r ≡ used-entries (now (self .entry)) ⌝ }
+    {
+        &self.sheet.entries[0..self.used]
+    }
+
     // An empty provider over these entries: the first 32 of them, or all if there are fewer, become blank.
     pub fn new(entries: &'a mut [Entry<V>]) -> Table<'a, V>
         ensures empty { λ r. ⌜ table-provider (V·Kind .code) r ≡ record { capacity = min (length (now (entries .entry))) 32; cells = [] } ⌝ }
@@ -81,11 +87,11 @@ pub impl<'a, V: Kind> Store<V> for Table<'a, V> as TableStore {
     }
 
     fn count(&self) -> usize {
-        self.used
+        self.used_entries().len()
     }
 
     fn get(&self, key: Key) -> Option<Stored<V>> {
-        match lookup(&self.sheet.entries[0..self.used], key) {
+        match lookup(self.used_entries(), key) {
             Some(e) => Some(Stored {
                 version: e.version,
                 value: e.value,
@@ -95,11 +101,12 @@ pub impl<'a, V: Kind> Store<V> for Table<'a, V> as TableStore {
     }
 
     fn list(&self, sheet: &mut [Key]) -> Result<usize, Refusal> {
-        if sheet.len() < self.used {
+        let used = self.used_entries();
+        if sheet.len() < used.len() {
             return Err(Refusal::KeySheetTooShort);
         }
-        list_in(&self.sheet.entries[0..self.used], sheet);
-        Ok(self.used)
+        list_in(used, sheet);
+        Ok(used.len())
     }
 
     fn put(&mut self, key: Key, version: Version, value: V) -> Result<(), Refusal>

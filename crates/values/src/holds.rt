@@ -13,7 +13,7 @@ impl Hold {
     pub fn new(seat: u16, first: u32, last: u32) -> Result<Hold, Refusal>
         ensures { λ r. ⌜ numbered r ≡ make-hold seat first last ⌝ }
     {
-        if first > last {
+        if last < first {
             return Err(Refusal::MinutesReversed);
         }
         Ok(Hold::Held { seat, first, last })
@@ -54,7 +54,7 @@ pub impl Kind for Hold as HoldKind {
     }
 
     fn blank() -> Hold {
-        Hold::Free
+        Self::Free
     }
 
     fn write(&self, sheet: &mut [u8]) -> Result<(), Refusal> {

@@ -37,7 +37,8 @@ impl Refusal {
         match self {
             Refusal::UnsupportedSize => "not 1 to 16 seats, or more than 7 providers",
             Refusal::SheetTooShort => "the sheet of seats or of lines is too short",
-            Refusal::UnsuitableCapacity => "a provider's capacity is below the seats plus two, or above 32",
+            Refusal::UnsuitableCapacity =>
+                "a provider's capacity is below the seats plus two, or above 32",
             Refusal::ProviderNotEmpty => "a provider holds a key",
             Refusal::NoSuchSeat => "no such seat",
             Refusal::NoSuchProvider => "no such provider",

@@ -1,0 +1,5 @@
+// Banks: rows of providers of mixed makes, behind one set of operations by number.
+
+pub mod bank;
+pub mod one;
+pub mod two;

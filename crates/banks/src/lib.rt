@@ -3,3 +3,4 @@
 pub mod bank;
 pub mod one;
 pub mod two;
+pub mod whole;

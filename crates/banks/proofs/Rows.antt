@@ -13,8 +13,8 @@ use Rattle.std.specs.declared.result.Result.the-variants.{Err}
 use Rattle.stores.specs.Provider.{Provider}
 use Rattle.banks.specs.Row.{has, absent, picked, answer-of, row-after, size-of}
 
--- A number is of a provider of the row, or it is not.
-abbrev Outside : ℕ → List Provider → Type 0
+-- a number that no provider of the row has
+abbrev pub Outside : ℕ → List Provider → Type 0
 Outside i row = (i < 1) ⊎ (length row < i)
 
 pub has-inside : (i : ℕ) (row : List Provider) → 1 ≤ i → i ≤ length row → has i row ≡ true

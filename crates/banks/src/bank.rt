@@ -1,5 +1,6 @@
 ghost use mathlib.Core.Path.{_≡_};
 ghost use mathlib.Core.List.{List};
+ghost use Prim.Native.Nat.{_≤_};
 ghost use lib.ListN.{length};
 ghost use denote.Ref.{now};
 ghost use Rattle.std.specs.Options.{mapped};
@@ -22,8 +23,10 @@ use values::version::Version;
 pub trait Bank<V: Kind> {
     ghost row: { Self → List Provider };
 
-    // Does nothing. Its contract says what holds of every provider of a bank. (See the trait of stores for the reason.)
+    // Does nothing. Its contract says what holds of every bank: it has a provider, and each provider's map is ascending
+    // and no larger than its capacity. (A law of the trait would say it, but no type with a lifetime can answer one.)
     fn lawful(&self)
+        ensures some { λ _. ⌜ 1 ≤ length (row (now (self .entry))) ⌝ }
         ensures sound { λ _. ⌜ All Sound (row (now (self .entry))) ⌝ };
 
     // How many providers there are.

@@ -92,78 +92,54 @@ fn fill<B: Bank<Secret>>(bank: &mut B) -> Result<(), Fail> {
     Ok(())
 }
 
-#[test]
-fn a_number_names_its_own_provider() -> Result<(), Fail> {
-    let mut bank = seven();
-    check_eq(bank.size(), 7)?;
-    fill(&mut bank)?;
+// Each provider holds what was put at its number, and nothing else.
+fn check_filled<B: Bank<Secret>>(bank: &B) -> Result<(), Fail> {
     for i in 1..8 {
         let open = i != 2 && i != 6;
         let room = if open { 1 } else { 0 };
         check_eq(bank.capacity(i), Ok(room))?;
         check_eq(bank.count(i), Ok(room))?;
         for k in 1..8 {
-            check_eq(shows(&bank, i, key(k as u32), b"text"), open && k == i)?;
+            check_eq(shows(bank, i, key(k as u32), b"text"), open && k == i)?;
         }
     }
-    Ok(())
+    check_eq(bank.size(), 7)
 }
 
 #[test]
-fn a_call_by_number_is_the_call_at_the_provider() -> Result<(), Fail> {
-    let text = Secret::new(b"text")?;
-    let mut first = empty();
-    let mut second = empty();
-    let mut third = empty();
-    let mut bank = Two {
-        left: One(&mut first),
-        right: Two {
-            left: One(&mut second),
-            right: One(&mut third),
-        },
-    };
-    bank.put(2, key(4), key(5), text)?;
-    bank.put(3, key(6), key(7), text)?;
-    bank.put(1, key(8), key(9), text)?;
-    bank.remove(3, key(6))?;
-    bank.remove(2, key(8))?;
-    let mut direct = empty();
-    check(alike(&third, &direct))?;
-    direct.put(key(4), key(5), text)?;
-    check(alike(&second, &direct))?;
-    check(!alike(&first, &direct))?;
-    direct.remove(key(4));
-    direct.put(key(8), key(9), text)?;
-    check(alike(&first, &direct))
+fn a_number_names_its_own_provider() -> Result<(), Fail> {
+    let mut bank = seven();
+    fill(&mut bank)?;
+    check_filled(&bank)
+}
+
+fn check_refused<B: Bank<Secret>>(bank: &mut B, i: usize) -> Result<(), Fail> {
+    let text = Secret::new(b"other")?;
+    let mut sheet = [key(70), key(71)];
+    check_eq(bank.capacity(i), Err(Refusal::NoSuchProvider))?;
+    check_eq(bank.count(i), Err(Refusal::NoSuchProvider))?;
+    check(bank.get(i, key(1)).err() == Some(Refusal::NoSuchProvider))?;
+    check_eq(bank.list(i, &mut sheet), Err(Refusal::NoSuchProvider))?;
+    check_eq(sheet, [key(70), key(71)])?;
+    check_eq(
+        bank.put(i, key(1), key(9), text),
+        Err(Refusal::NoSuchProvider),
+    )?;
+    check_eq(bank.remove(i, key(1)), Err(Refusal::NoSuchProvider))
 }
 
 #[test]
 fn a_number_of_no_provider_is_refused() -> Result<(), Fail> {
-    let text = Secret::new(b"text")?;
     let mut bank = seven();
     fill(&mut bank)?;
     for i in [0, 8, 9, usize::MAX] {
-        let mut sheet = [key(70), key(71)];
-        check_eq(bank.capacity(i), Err(Refusal::NoSuchProvider))?;
-        check_eq(bank.count(i), Err(Refusal::NoSuchProvider))?;
-        check(bank.get(i, key(1)).err() == Some(Refusal::NoSuchProvider))?;
-        check_eq(bank.list(i, &mut sheet), Err(Refusal::NoSuchProvider))?;
-        check_eq(sheet, [key(70), key(71)])?;
-        check_eq(
-            bank.put(i, key(1), key(9), text),
-            Err(Refusal::NoSuchProvider),
-        )?;
-        check_eq(bank.remove(i, key(1)), Err(Refusal::NoSuchProvider))?;
+        check_refused(&mut bank, i)?;
     }
-    check(shows(&bank, 1, key(1), b"text"))?;
-    check_eq(whole::total_count::<Secret, Seven>(&bank), 5)
+    check_filled(&bank)
 }
 
-#[test]
-fn a_providers_refusal_comes_up_unchanged() -> Result<(), Fail> {
-    let text = Secret::new(b"text")?;
-    let mut bank = seven();
-    fill(&mut bank)?;
+fn check_refusals<B: Bank<Secret>>(bank: &mut B) -> Result<(), Fail> {
+    let text = Secret::new(b"other")?;
     check_eq(bank.put(4, key(40), key(40), text), Err(Refusal::StoreFull))?;
     check_eq(bank.put(6, key(40), key(40), text), Err(Refusal::StoreFull))?;
     let mut none: [Key; 0] = [];
@@ -172,6 +148,48 @@ fn a_providers_refusal_comes_up_unchanged() -> Result<(), Fail> {
     let mut sheet = [key(70), key(71)];
     check_eq(bank.list(4, &mut sheet), Ok(1))?;
     check_eq(sheet, [key(4), key(71)])
+}
+
+#[test]
+fn a_providers_refusal_comes_up_unchanged() -> Result<(), Fail> {
+    let mut bank = seven();
+    fill(&mut bank)?;
+    check_refusals(&mut bank)?;
+    check_filled(&bank)
+}
+
+fn work<B: Bank<Secret>>(bank: &mut B, text: Secret) -> Result<(), Refusal> {
+    bank.put(2, key(4), key(5), text)?;
+    bank.put(3, key(6), key(7), text)?;
+    bank.put(1, key(8), key(9), text)?;
+    bank.remove(3, key(6))?;
+    bank.remove(2, key(8))
+}
+
+#[test]
+fn a_call_by_number_is_the_call_at_the_provider() -> Result<(), Fail> {
+    let text = Secret::new(b"text")?;
+    let mut first = empty();
+    let mut second = empty();
+    let mut third = empty();
+    work(
+        &mut Two {
+            left: One(&mut first),
+            right: Two {
+                left: One(&mut second),
+                right: One(&mut third),
+            },
+        },
+        text,
+    )?;
+    let mut direct = empty();
+    check(alike(&third, &direct))?;
+    direct.put(key(4), key(5), text)?;
+    check(alike(&second, &direct))?;
+    check(!alike(&first, &direct))?;
+    direct.remove(key(4));
+    direct.put(key(8), key(9), text)?;
+    check(alike(&first, &direct))
 }
 
 // Puts one key at the first and the third of three providers and another at the second, and takes the one out everywhere.

@@ -106,11 +106,14 @@ fn check_filled<B: Bank<Secret>>(bank: &B) -> Result<(), Fail> {
     check_eq(bank.size(), 7)
 }
 
+fn check_numbers<B: Bank<Secret>>(bank: &mut B) -> Result<(), Fail> {
+    fill(bank)?;
+    check_filled(bank)
+}
+
 #[test]
 fn a_number_names_its_own_provider() -> Result<(), Fail> {
-    let mut bank = seven();
-    fill(&mut bank)?;
-    check_filled(&bank)
+    check_numbers(&mut seven())
 }
 
 fn check_refused<B: Bank<Secret>>(bank: &mut B, i: usize) -> Result<(), Fail> {
@@ -128,18 +131,22 @@ fn check_refused<B: Bank<Secret>>(bank: &mut B, i: usize) -> Result<(), Fail> {
     check_eq(bank.remove(i, key(1)), Err(Refusal::NoSuchProvider))
 }
 
+fn check_other_numbers<B: Bank<Secret>>(bank: &mut B) -> Result<(), Fail> {
+    fill(bank)?;
+    for i in [0, 8, 9, usize::MAX] {
+        check_refused(bank, i)?;
+    }
+    check_filled(bank)
+}
+
 #[test]
 fn a_number_of_no_provider_is_refused() -> Result<(), Fail> {
-    let mut bank = seven();
-    fill(&mut bank)?;
-    for i in [0, 8, 9, usize::MAX] {
-        check_refused(&mut bank, i)?;
-    }
-    check_filled(&bank)
+    check_other_numbers(&mut seven())
 }
 
 fn check_refusals<B: Bank<Secret>>(bank: &mut B) -> Result<(), Fail> {
     let text = Secret::new(b"other")?;
+    fill(bank)?;
     check_eq(bank.put(4, key(40), key(40), text), Err(Refusal::StoreFull))?;
     check_eq(bank.put(6, key(40), key(40), text), Err(Refusal::StoreFull))?;
     let mut none: [Key; 0] = [];
@@ -147,15 +154,13 @@ fn check_refusals<B: Bank<Secret>>(bank: &mut B) -> Result<(), Fail> {
     check_eq(bank.list(6, &mut none), Ok(0))?;
     let mut sheet = [key(70), key(71)];
     check_eq(bank.list(4, &mut sheet), Ok(1))?;
-    check_eq(sheet, [key(4), key(71)])
+    check_eq(sheet, [key(4), key(71)])?;
+    check_filled(bank)
 }
 
 #[test]
 fn a_providers_refusal_comes_up_unchanged() -> Result<(), Fail> {
-    let mut bank = seven();
-    fill(&mut bank)?;
-    check_refusals(&mut bank)?;
-    check_filled(&bank)
+    check_refusals(&mut seven())
 }
 
 fn work<B: Bank<Secret>>(bank: &mut B, text: Secret) -> Result<(), Refusal> {

@@ -2,5 +2,6 @@
 
 pub mod bank;
 pub mod one;
+mod side;
 pub mod two;
 pub mod whole;

@@ -23,7 +23,7 @@ pub fn total_count<V: Kind, B: Bank<V>>(bank: &B) -> usize
 pub fn remove_everywhere<V: Kind, B: Bank<V>>(bank: &mut B, key: Key)
     ensures { λ _. ⌜ B·Bank .row (now (bank .exit)) ≡ all-after (B·Bank .row (now (bank .entry))) (remove-after (rank key)) ⌝ }
 {
-    for i in 0..bank.size() {
-        let _ = bank.remove(i + 1, key);
+    for place in 0..bank.size() {
+        let _ = bank.remove(place + 1, key);
     }
 }

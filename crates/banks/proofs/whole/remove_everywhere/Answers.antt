@@ -7,9 +7,9 @@ use Rattle.banks.specs.Row.{row-after}
 use Rattle.banks.proofs.Steps.{stepped-more}
 use Rattle.banks.proofs.whole.remove_everywhere.Needs as need
 
-pub loop-i-again : need.loop-i-again
-loop-i-again g c =
+pub loop-place-again : need.loop-place-again
+loop-place-again g c =
     let step = remove-after (rank (c .args .key)) in
     c .remove .ensures .after
-    ∙ ap (λ row. row-after (c .loop-i .i + 1) row step) (c .loop-i .inv)
-    ∙ stepped-more (g .B·Bank .row (c .args .bank .now)) (c .loop-i .i) (omega arith) step
+    ∙ ap (λ row. row-after (c .loop-place .place + 1) row step) (c .loop-place .inv)
+    ∙ stepped-more (g .B·Bank .row (c .args .bank .now)) (c .loop-place .place) (omega arith) step

@@ -5,7 +5,7 @@ use Rattle.values.specs.Rank.{rank}
 use Rattle.stores.specs.Operations.{remove-after}
 use Rattle.banks.proofs.whole.remove_everywhere.Given as given
 
-abbrev pub Inv-loop-i : given.InvT-loop-i
-Inv-loop-i g l =
+abbrev pub Inv-loop-place : given.InvT-loop-place
+Inv-loop-place g l =
     let old = g .B·Bank .row (l .entry .bank) in
-    g .B·Bank .row (l .bank) ≡ map (remove-after (rank (l .key))) (take (l .i) old) ++ drop (l .i) old
+    g .B·Bank .row (l .bank) ≡ map (remove-after (rank (l .key))) (take (l .place) old) ++ drop (l .place) old

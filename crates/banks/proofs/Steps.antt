@@ -15,7 +15,7 @@ use Rattle.stores.specs.Provider.{Provider}
 use Rattle.banks.specs.Row.{absent, answer-of, row-after}
 use Rattle.banks.proofs.Rows.{picked-inside, row-inside}
 
--- A loop over the providers of a row that have come as far as i asks, or changes, provider i + 1.
+-- One turn of a loop over the providers of a row: the first i are done, and provider i + 1 is next.
 
 same-place : (i : ℕ) → i + 1 - 1 ≡ i
 same-place i = omega arith

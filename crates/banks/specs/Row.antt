@@ -1,13 +1,11 @@
 use mathlib.Core.List.{List, []}
-use mathlib.Core.Bool.{Bool, true, cond, _&&_}
-use mathlib.Core.Path.{_≡_}
-use Prim.Native.Nat.{ℕ, _-_, _^_, min, _≤_}
+use mathlib.Core.Bool.{Bool, cond, _&&_}
+use Prim.Native.Nat.{ℕ, _-_, _^_, min}
 use lib.Dec.{leb}
 use lib.ListN.{length, getD, set}
 use Rattle.std.specs.declared.result.Result.{Result}
 use Rattle.std.specs.declared.result.Result.the-variants.{Err}
-use Rattle.stores.specs.Provider.{Provider, keys}
-use Rattle.stores.specs.Keyed.{ascending}
+use Rattle.stores.specs.Provider.{Provider}
 
 -- A bank means the row of its providers' meanings. Providers are numbered from 1.
 
@@ -34,8 +32,3 @@ row-after i row step = picked i row (λ p. set row (i - 1) (step p)) row
 -- The number of providers, as far as a number of 64 bits can say: exact for every row of fewer than 2 ^ 64 providers.
 abbrev pub size-of : List Provider → ℕ
 size-of row = min (length row) (2 ^ 64 - 1)
-
--- What holds of every provider: its map is ascending, and no larger than its capacity.
-pub record Sound (p : Provider) : Type 0 where
-  pub few : length (p .cells) ≤ p .capacity
-  pub sorted : ascending (keys p) ≡ true

@@ -1,7 +1,7 @@
 use native.Mathlib.Omega.{arith}
 use Rattle.std.proofs.shelf.Lists.{length-append}
 use Rattle.std.proofs.shelf.Elements.{all-append}
-use Rattle.banks.specs.Row.{Sound}
+use Rattle.banks.specs.Sound.{Sound}
 use Rattle.banks.proofs.two.TwoBank.lawful.Needs as need
 
 pub returns : need.returns

@@ -1,4 +1,4 @@
-mod Padding
-mod Coding
-mod LittleEndian
-mod HoldCoding
+pub mod Padding
+pub mod Coding
+pub mod LittleEndian
+pub mod HoldCoding

@@ -1,0 +1,9 @@
+mod Sizes
+mod Cuts
+mod Overlays
+mod Maps
+mod Replays
+mod Finds
+mod Sixes
+mod Writes
+mod Packs

@@ -1,0 +1,7 @@
+// The journal.
+
+mod form;
+mod forms;
+mod found;
+mod walk;
+mod write;

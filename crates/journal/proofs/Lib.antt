@@ -7,3 +7,7 @@ mod Finds
 mod Sixes
 mod Writes
 mod Packs
+mod Appends
+mod Records
+mod Changes
+mod Normals

@@ -5,3 +5,4 @@ pub mod Log
 pub mod Contents
 pub mod Walk
 pub mod Normal
+pub mod Held

@@ -1,7 +1,16 @@
-// The journal.
+// The journal: a provider that keeps its map as a log of records in plain bytes. A put, and a remove of a present key,
+// append one record each; where a record does not fit, the log is packed first.
 
+mod append;
+pub mod canonical;
+pub mod codec;
 mod form;
 mod forms;
 mod found;
+pub mod journal;
+mod keys;
+mod pack;
+mod region;
+mod regions;
 mod walk;
 mod write;

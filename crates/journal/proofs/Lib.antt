@@ -11,3 +11,4 @@ mod Appends
 mod Records
 mod Changes
 mod Normals
+mod Listings

@@ -9,11 +9,11 @@ use borrow.Rule.Slice.PartMut.{putMid, postOf}
 use Rattle.std.proofs.shelf.Lists.{length-take-le, length-append, length-drop, take-append-drop, take-at, drop-at, drop-drop, append-assoc, set-split, drop-append-le, getD-drop, take-more, take-take, length-take, take-append-le, drop-all, append-nil, length-replicate}
 use Rattle.journal.specs.Walk.{overlay}
 
-pub overlay-none : (at : ℕ) (bs : List ℕ) → overlay at [] bs ≡ bs
+pub overlay-none : {A : Type 0} (at : ℕ) (bs : List A) → overlay at [] bs ≡ bs
 unfolding overlay
 overlay-none at bs = let e : at + 0 ≡ at = omega arith in ap (λ n. take at bs ++ drop n bs) e ∙ take-append-drop at bs
 
-module _ (at : ℕ) (ys bs : List ℕ) (fits : at + length ys ≤ length bs) where
+module _ {A : Type 0} (at : ℕ) (ys bs : List A) (fits : at + length ys ≤ length bs) where
   overlay-is : overlay at ys bs ≡ (take at bs ++ ys) ++ drop (at + length ys) bs
   unfolding overlay
   overlay-is = sym (append-assoc (take at bs) ys (drop (at + length ys) bs))
@@ -48,7 +48,7 @@ module _ (at : ℕ) (ys bs : List ℕ) (fits : at + length ys ≤ length bs) whe
       let f = front in
       omega arith
 
-  pub overlay-overlay : (zs : List ℕ) (n : ℕ) → n ≡ at + length ys → n + length zs ≤ length bs → overlay n zs (overlay at ys bs) ≡ overlay at (ys ++ zs) bs
+  pub overlay-overlay : (zs : List A) (n : ℕ) → n ≡ at + length ys → n + length zs ≤ length bs → overlay n zs (overlay at ys bs) ≡ overlay at (ys ++ zs) bs
   unfolding overlay
   overlay-overlay zs n is le =
       let l = length-append ys zs in
@@ -60,9 +60,21 @@ pub overlay-putMid : (at k : ℕ) (bs ys : List ℕ) → k ≡ length ys → put
 unfolding overlay
 overlay-putMid at k bs ys is = ap (λ xs. take at bs ++ (ys ++ xs)) (drop-drop k at bs ∙ ap (λ m. drop (at + m) bs) is)
 
-pub overlay-set : (at : ℕ) (bs : List ℕ) (b : ℕ) → at < length bs → set bs at b ≡ overlay at (b ∷ []) bs
+pub overlay-set : {A : Type 0} (at : ℕ) (bs : List A) (b : A) → at < length bs → set bs at b ≡ overlay at (b ∷ []) bs
 unfolding overlay
 overlay-set at bs b lt = let e : suc at ≡ at + 1 = omega arith in set-split bs at b lt ∙ ap (λ m. take at bs ++ (b ∷ drop m bs)) e
+
+-- one element before others that were laid
+pub overlay-cons : {A : Type 0} (at : ℕ) (x : A) (ys bs : List A) → at + 1 + length ys ≤ length bs → set (overlay (at + 1) ys bs) at x ≡ overlay at (x ∷ ys) bs
+unfolding overlay
+overlay-cons at x ys bs fits =
+    let L = overlay (at + 1) ys bs in
+    let n = length-overlay (at + 1) ys bs fits in
+    let t : take at (overlay (at + 1) ys bs) ≡ take at bs = take-overlay-below (at + 1) ys bs fits at (omega arith) in
+    let lt = length-take-le (at + 1) bs (omega arith) in
+    let d : drop (at + 1) (overlay (at + 1) ys bs) ≡ ys ++ drop (at + 1 + length ys) bs = drop-at (take (at + 1) bs) (ys ++ drop (at + 1 + length ys) bs) (at + 1) lt in
+    let e : at + 1 + length ys ≡ at + length (x ∷ ys) = omega arith in
+    overlay-set at L x (omega arith) ∙ (ap (λ xs. xs ++ (x ∷ drop (at + 1) L)) t ∙ (ap (λ xs. take at bs ++ (x ∷ xs)) d ∙ ap (λ m. take at bs ++ (x ∷ (ys ++ drop m bs))) e))
 
 -- one byte more was moved down
 pub moved : (old es : List ℕ) (from to n i : ℕ) → to ≤ from → from + n ≤ length old → i < n → es ≡ overlay to (take i (drop from old)) old → set es (to + i) (getD es (from + i) 0) ≡ overlay to (take (i + 1) (drop from old)) old

@@ -1,6 +1,6 @@
 use mathlib.Core.List.{List, []}
 use mathlib.Core.Bool.{Bool, cond}
-use Prim.Native.Nat.{ℕ, _+_, _-_, _/_, min}
+use Prim.Native.Nat.{ℕ, _+_, _-_, _*_, _/_, _≤_, min}
 use lib.Dec.{eqb}
 use lib.ListN.{length, take}
 use Rattle.std.specs.Options.{isSome}
@@ -30,6 +30,13 @@ with-records s rs = record { width = s .width; room = s .room; size = s .size; r
 abbrev pub room-in : ℕ → ℕ → ℕ
 room-in w n = min 32 (n / (13 + w) - 1)
 
+-- that this is so
+pub record Largest (w n c : ℕ) : Type 0 where
+  pub small : c ≤ 32
+  pub fits : 1 ≤ c → (c + 1) * (13 + w) ≤ n
+  pub most : (k : ℕ) → k ≤ 32 → (k + 1) * (13 + w) ≤ n → k ≤ c
+
+-- nothing yet, in n bytes
 abbrev pub empty : ℕ → ℕ → Contents
 empty w n = record { width = w; room = room-in w n; size = n; records = [] }
 

@@ -1,6 +1,6 @@
 use mathlib.Core.Path.{_≡_}
 use mathlib.Core.List.{List, [], _∷_, _++_}
-use mathlib.Core.Bool.{true, cond}
+use mathlib.Core.Bool.{Bool, true, cond, not, _&&_}
 use Prim.Native.Nat.{ℕ, suc, _+_, _-_, _≤_, _<_}
 use lib.Dec.{eqb, ltb}
 use lib.ListN.{length, take, drop, replicate}
@@ -15,7 +15,7 @@ use Rattle.stores.specs.Provider.{Cell}
 use Rattle.journal.specs.declared.found.Extent.{Extent}
 use Rattle.journal.specs.declared.found.Found.{Found}
 use Rattle.journal.specs.Record.{record-key, record-cell, is-put, whole}
-use Rattle.journal.specs.Log.{log, sound, replay, joined, live}
+use Rattle.journal.specs.Log.{log, sound, replay, joined, mentions, live}
 use Rattle.journal.specs.Contents.{Contents}
 
 -- What the functions on a journal's bytes promise one another. No public contract cites these.
@@ -73,6 +73,10 @@ pub record Leaves (s : Contents) (rs : List (List ℕ)) (e : Extent) (bs : List 
 abbrev pub extent-after : Extent → Result Extent Refusal → Extent
 extent-after e (Ok x) = x
 extent-after e (Err r) = e
+
+-- whether a record before others is live
+abbrev pub is-live : List ℕ → List (List ℕ) → Bool
+is-live r rs = is-put r && not (mentions (record-key r) rs)
 
 -- the place of a key among ascending ones, and keys with those of some records put in their places
 abbrev pub place : ℕ → List ℕ → ℕ

@@ -60,16 +60,16 @@ fn map_of_remove(key: Key) -> u8
 }
 
 // Puts a version and a value, by its bytes, under a key.
-pub(crate) fn put_in(bytes: &mut [u8], extent: Extent, room: usize, key: Key, version: Version, value: &[u8]) -> Result<Extent, Refusal>
-    requires narrow { ⌜ length (now value) ≤ 64 ⌝ }
-    requires log { ⌜ Logged (length (now value)) (extent .used) (now bytes) (log (length (now value)) (take (extent .used) (now bytes))) ⌝ }
-    requires counted { ⌜ extent .count ≡ length (replay (log (length (now value)) (take (extent .used) (now bytes)))) ⌝ }
+pub(crate) fn put_in(bytes: &mut [u8], extent: Extent, w: usize, room: usize, key: Key, version: Version, value: &[u8]) -> Result<Extent, Refusal>
+    requires narrow { ⌜ w ≤ 64 ⌝ }
+    requires wide { ⌜ length (now value) ≡ w ⌝ }
+    requires log { ⌜ Logged w (extent .used) (now bytes) (log w (take (extent .used) (now bytes))) ⌝ }
+    requires counted { ⌜ extent .count ≡ length (replay (log w (take (extent .used) (now bytes)))) ⌝ }
     requires few { ⌜ extent .count ≤ room ⌝ }
-    requires fits { ⌜ (1 ≤ room → room * (13 + length (now value)) + (13 + length (now value)) ≤ length (now bytes)) ⌝ }
-    ensures answer { λ r. ⌜ outcome (λ _. tt) r ≡ put-answer (cell key version (now (value .entry))) (raw (contents (length (now (value .entry))) room (extent .used) (now (bytes .entry)))) ⌝ }
-    ensures after { λ r. ⌜ Leaves (contents (length (now (value .entry))) room (extent .used) (now (bytes .entry))) (put-log (cell key version (now (value .entry))) (contents (length (now (value .entry))) room (extent .used) (now (bytes .entry)))) (extent-after extent r) (now (bytes .exit)) ⌝ }
+    requires fits { ⌜ (1 ≤ room → room * (13 + w) + (13 + w) ≤ length (now bytes)) ⌝ }
+    ensures answer { λ r. ⌜ outcome (λ _. tt) r ≡ put-answer (cell key version (now (value .entry))) (raw (contents w room (extent .used) (now (bytes .entry)))) ⌝ }
+    ensures after { λ r. ⌜ Leaves (contents w room (extent .used) (now (bytes .entry))) (put-log (cell key version (now (value .entry))) (contents w room (extent .used) (now (bytes .entry)))) (extent-after extent r) (now (bytes .exit)) ⌝ }
 {
-    let w = value.len();
     let used = extent.used;
     let count = extent.count;
     let present = is_present(&bytes[0..used], w, key);

@@ -4,6 +4,7 @@
 mod append;
 pub mod canonical;
 pub mod codec;
+pub mod driver;
 mod form;
 mod forms;
 mod found;

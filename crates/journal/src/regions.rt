@@ -18,16 +18,17 @@ use values::version::Key;
 use values::version::Version;
 
 impl<'a> Region<'a> {
-    pub(crate) fn put(&mut self, extent: Extent, room: usize, key: Key, version: Version, value: &[u8]) -> Result<Extent, Refusal>
-        requires narrow { ⌜ length (now value) ≤ 64 ⌝ }
-        requires log { ⌜ Logged (length (now value)) (extent .used) (now (now self .bytes)) (log (length (now value)) (take (extent .used) (now (now self .bytes)))) ⌝ }
-        requires counted { ⌜ extent .count ≡ length (replay (log (length (now value)) (take (extent .used) (now (now self .bytes))))) ⌝ }
+    pub(crate) fn put(&mut self, extent: Extent, w: usize, room: usize, key: Key, version: Version, value: &[u8]) -> Result<Extent, Refusal>
+        requires narrow { ⌜ w ≤ 64 ⌝ }
+        requires wide { ⌜ length (now value) ≡ w ⌝ }
+        requires log { ⌜ Logged w (extent .used) (now (now self .bytes)) (log w (take (extent .used) (now (now self .bytes)))) ⌝ }
+        requires counted { ⌜ extent .count ≡ length (replay (log w (take (extent .used) (now (now self .bytes))))) ⌝ }
         requires few { ⌜ extent .count ≤ room ⌝ }
-        requires fits { ⌜ (1 ≤ room → room * (13 + length (now value)) + (13 + length (now value)) ≤ length (now (now self .bytes))) ⌝ }
-        ensures answer { λ r. ⌜ outcome (λ _. tt) r ≡ put-answer (cell key version (now (value .entry))) (raw (contents (length (now (value .entry))) room (extent .used) (now (now (self .entry) .bytes)))) ⌝ }
-        ensures after { λ r. ⌜ Leaves (contents (length (now (value .entry))) room (extent .used) (now (now (self .entry) .bytes))) (put-log (cell key version (now (value .entry))) (contents (length (now (value .entry))) room (extent .used) (now (now (self .entry) .bytes)))) (extent-after extent r) (now (now (self .exit) .bytes)) ⌝ }
+        requires fits { ⌜ (1 ≤ room → room * (13 + w) + (13 + w) ≤ length (now (now self .bytes))) ⌝ }
+        ensures answer { λ r. ⌜ outcome (λ _. tt) r ≡ put-answer (cell key version (now (value .entry))) (raw (contents w room (extent .used) (now (now (self .entry) .bytes)))) ⌝ }
+        ensures after { λ r. ⌜ Leaves (contents w room (extent .used) (now (now (self .entry) .bytes))) (put-log (cell key version (now (value .entry))) (contents w room (extent .used) (now (now (self .entry) .bytes)))) (extent-after extent r) (now (now (self .exit) .bytes)) ⌝ }
     {
-        put_in(self.bytes, extent, room, key, version, value)
+        put_in(self.bytes, extent, w, room, key, version, value)
     }
 
     pub(crate) fn remove(&mut self, extent: Extent, w: usize, room: usize, key: Key) -> Extent

@@ -25,13 +25,13 @@ pushed w used r bs rs l fits o =
     let n = length-overlay used r bs fits in
     let e : length bs - used - length r ≡ length (overlay used r bs) - (used + length r) = omega arith in
     let d : drop (used + length r) bs ≡ drop (length r) (drop used bs) = sym (drop-drop (length r) used bs) in
-    record
-      { within = omega arith
-      ; is = ap (log w) (take-overlay used r bs fits) ∙ (log-push w (take used bs) r s o ∙ ap (λ xs. xs ++ r ∷ []) (l .is))
-      ; sounds = sound-append w rs (r ∷ []) (l .sounds) (and-from (whole w r) true o refl)
-      ; zeros =
-        drop-overlay used r bs fits (used + length r) (omega arith) ∙ (d ∙ (ap (drop (length r)) (l .zeros) ∙ (drop-replicate (length r) (length bs - used) 0 ∙ ap (λ k. replicate k 0) e)))
-      }
+    record {
+      within = omega arith;
+      is = ap (log w) (take-overlay used r bs fits) ∙ (log-push w (take used bs) r s o ∙ ap (λ xs. xs ++ r ∷ []) (l .is));
+      sounds = sound-append w rs (r ∷ []) (l .sounds) (and-from (whole w r) true o refl);
+      zeros =
+          drop-overlay used r bs fits (used + length r) (omega arith) ∙ (d ∙ (ap (drop (length r)) (l .zeros) ∙ (drop-replicate (length r) (length bs - used) 0 ∙ ap (λ k. replicate k 0) e)));
+    }
 
 -- bytes that are live records and zeros
 pub packed-logged : (w used to : ℕ) (bs bs′ : List ℕ) → sound w (log w (take used bs)) ≡ true → to ≡ length (packed w (take used bs)) → to ≤ length bs → bs′ ≡ packed w (take used bs) ++ replicate (length bs - length (packed w (take used bs))) 0 → Logged w to bs′ (live (log w (take used bs)))
@@ -45,12 +45,12 @@ packed-logged w used to bs bs′ h ti le is =
     let d : drop to bs′ ≡ Z = ap (drop to) is ∙ drop-at P Z to (sym ti) in
     let s = sound-live w (log w (take used bs)) h in
     let e : length bs - length (joined (live (log w (take used bs)))) ≡ length bs′ - to = omega arith in
-    record
-      { within = omega arith
-      ; is = ap (log w) t ∙ log-joined w (live (log w (take used bs))) s
-      ; sounds = s
-      ; zeros = d ∙ ap (λ k. replicate k 0) e
-      }
+    record {
+      within = omega arith;
+      is = ap (log w) t ∙ log-joined w (live (log w (take used bs))) s;
+      sounds = s;
+      zeros = d ∙ ap (λ k. replicate k 0) e;
+    }
 
 -- the records of a log take up its used part
 pub used-is : (w used : ℕ) (bs : List ℕ) (rs : List (List ℕ)) → Logged w used bs rs → length (joined rs) ≡ used

@@ -30,19 +30,19 @@ known w used k bytes b h =
     sym (h ∙ ap (λ m. isSome (find cell-key k (replay (log w (take m bytes))))) z)
 
 leaves : (w room used used′ count′ : ℕ) (bs bs′ : List ℕ) (rs : List (List ℕ)) → Logged w used′ bs′ rs → length bs′ ≡ length bs → count′ ≡ length (replay rs) → count′ ≤ room → Leaves (contents w room used bs) rs (record { used = used′; count = count′ }) bs′
-leaves w room used used′ count′ bs bs′ rs l len counted few = record
-  { size = len
-  ; within = l .within
-  ; is = l .is
-  ; sounds = ap (sound w) (l .is) ∙ l .sounds
-  ; zeros = l .zeros
-  ; counted = counted ∙ ap (λ xs. length (replay xs)) (sym (l .is))
-  ; few = few
-  }
+leaves w room used used′ count′ bs bs′ rs l len counted few = record {
+  size = len;
+  within = l .within;
+  is = l .is;
+  sounds = ap (sound w) (l .is) ∙ l .sounds;
+  zeros = l .zeros;
+  counted = counted ∙ ap (λ xs. length (replay xs)) (sym (l .is));
+  few = few;
+}
 
 module _ (w room used : ℕ) (bs : List ℕ) (r : List ℕ) (c : Cell) (back : Reads-put w r c) (is : r ≡ put-record c) where
   put-done : (used′ count′ : ℕ) (bs′ : List ℕ) → Logged w used′ bs′ (appended (length bs) r (log w (take used bs))) → length bs′ ≡ length bs → room-for (c .key) (raw (contents w room used bs)) ≡ true → count′ ≡ length (put cell-key c (replay (log w (take used bs)))) → count′ ≤ room →
-    (_≡_ {A = Result (Unit {0}) ℕ} (Ok tt) (put-answer c (raw (contents w room used bs)))) × Leaves (contents w room used bs) (put-log c (contents w room used bs)) (record { used = used′; count = count′ }) bs′
+      (_≡_ {A = Result (Unit {0}) ℕ} (Ok tt) (put-answer c (raw (contents w room used bs)))) × Leaves (contents w room used bs) (put-log c (contents w room used bs)) (record { used = used′; count = count′ }) bs′
   put-done used′ count′ bs′ l len there counted few =
       let rs = log w (take used bs) in
       let m : replay (appended (length bs) r rs) ≡ put cell-key c (replay rs) = replay-appended (length bs) r rs ∙ step-put w r c (replay rs) back in
@@ -52,21 +52,21 @@ module _ (w room used : ℕ) (bs : List ℕ) (r : List ℕ) (c : Cell) (back : R
 
   -- over a present key
   pub put-again : (used′ count : ℕ) (bs′ : List ℕ) → Logged w used′ bs′ (appended (length bs) r (log w (take used bs))) → length bs′ ≡ length bs → isSome (find cell-key (c .key) (replay (log w (take used bs)))) ≡ true → count ≡ length (replay (log w (take used bs))) → count ≤ room →
-    (_≡_ {A = Result (Unit {0}) ℕ} (Ok tt) (put-answer c (raw (contents w room used bs)))) × Leaves (contents w room used bs) (put-log c (contents w room used bs)) (record { used = used′; count = count }) bs′
+      (_≡_ {A = Result (Unit {0}) ℕ} (Ok tt) (put-answer c (raw (contents w room used bs)))) × Leaves (contents w room used bs) (put-log c (contents w room used bs)) (record { used = used′; count = count }) bs′
   put-again used′ count bs′ l len there counted few =
       let m = replay (log w (take used bs)) in
       put-done used′ count bs′ l len (or-left (isSome (find cell-key (c .key) m)) (ltb (length m) room) there) (counted ∙ sym (length-put-old c m (ascends-replay [] (log w (take used bs)) refl) there)) few
 
   -- of a new key
   pub put-new : (used′ count : ℕ) (bs′ : List ℕ) → Logged w used′ bs′ (appended (length bs) r (log w (take used bs))) → length bs′ ≡ length bs → isSome (find cell-key (c .key) (replay (log w (take used bs)))) ≡ false → count ≡ length (replay (log w (take used bs))) → count < room →
-    (_≡_ {A = Result (Unit {0}) ℕ} (Ok tt) (put-answer c (raw (contents w room used bs)))) × Leaves (contents w room used bs) (put-log c (contents w room used bs)) (record { used = used′; count = count + 1 }) bs′
+      (_≡_ {A = Result (Unit {0}) ℕ} (Ok tt) (put-answer c (raw (contents w room used bs)))) × Leaves (contents w room used bs) (put-log c (contents w room used bs)) (record { used = used′; count = count + 1 }) bs′
   put-new used′ count bs′ l len gone counted few =
       let m = replay (log w (take used bs)) in
       let n = length-put-new c m (none-is (find cell-key (c .key) m) gone) in
       put-done used′ (count + 1) bs′ l len (or-right (isSome (find cell-key (c .key) m)) (ltb (length m) room) (lt-ltb (length m) room (omega arith))) (omega arith) (omega arith)
 
 pub removed : (w room used : ℕ) (bs r : List ℕ) (k : ℕ) → Reads-remove w r k → r ≡ remove-record k → (used′ count : ℕ) (bs′ : List ℕ) → Logged w used′ bs′ (appended (length bs) r (log w (take used bs))) → length bs′ ≡ length bs → isSome (find cell-key k (replay (log w (take used bs)))) ≡ true → count ≡ length (replay (log w (take used bs))) → count ≤ room →
-  Leaves (contents w room used bs) (remove-log k (contents w room used bs)) (record { used = used′; count = count - 1 }) bs′
+    Leaves (contents w room used bs) (remove-log k (contents w room used bs)) (record { used = used′; count = count - 1 }) bs′
 removed w room used bs r k back is used′ count bs′ l len there counted few =
     let rs = log w (take used bs) in
     let m : replay (appended (length bs) r rs) ≡ without cell-key k (replay rs) = replay-appended (length bs) r rs ∙ step-remove w r k (replay rs) back in

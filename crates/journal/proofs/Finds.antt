@@ -44,7 +44,7 @@ module _ (w : ℕ) (bs : List ℕ) (at next : ℕ) (st : Step w bs at next) wher
       ap (λ i. drop (1 + m) (take i (drop at bs))) e ∙ (d ∙ ap (take w) g)
 
   pub says-put : (v : Version) (from : ℕ) → is-put (take (next - at) (drop at bs)) ≡ true → rank v ≡ record-version (take (next - at) (drop at bs)) → from ≡ at + 1 + form (bit-map (take (next - at) (drop at bs))) .length →
-    (found-in w bs (record-key (take (next - at) (drop at bs))) (Some (record { version = v; from = from })) ≡ seen (take (next - at) (drop at bs))) × (from + w ≤ length bs)
+      (found-in w bs (record-key (take (next - at) (drop at bs))) (Some (record { version = v; from = from })) ≡ seen (take (next - at) (drop at bs))) × (from + w ≤ length bs)
   says-put v from p vi fi =
       let r = take (next - at) (drop at bs) in
       let f : ℕ → List ℕ → Option Cell = λ x y. Some (record { key = record-key r; pair = record { version = x; value = y } }) in
@@ -57,7 +57,7 @@ module _ (w : ℕ) (bs : List ℕ) (at next : ℕ) (st : Step w bs at next) wher
   says-remove p = sym (cond-false (is-put (take (next - at) (drop at bs))) (Some (record-cell (take (next - at) (drop at bs)))) None p)
 
   pub found-more : (k : ℕ) (old new : Option Found) (o : Option Cell) → true ≡ eqb (record-key (take (next - at) (drop at bs))) k → found-in w bs (record-key (take (next - at) (drop at bs))) new ≡ seen (take (next - at) (drop at bs)) → Found-fits w (length bs) new → look-on (found-in w bs k old) k (log w (drop at bs)) ≡ o →
-    (next ≤ length bs) × (sound w (log w (drop next bs)) ≡ true) × (look-on (found-in w bs k new) k (log w (drop next bs)) ≡ o) × Found-fits w (length bs) new
+      (next ≤ length bs) × (sound w (log w (drop next bs)) ≡ true) × (look-on (found-in w bs k new) k (log w (drop next bs)) ≡ o) × Found-fits w (length bs) new
   found-more k old new o hit says fits inv =
       let r = take (next - at) (drop at bs) in
       let e : record-key r ≡ k = eqb-true (record-key r) k (sym hit) in

@@ -12,3 +12,4 @@ mod Records
 mod Changes
 mod Normals
 mod Listings
+mod Holdings

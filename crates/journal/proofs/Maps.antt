@@ -36,17 +36,17 @@ find-put k n [] = refl
 find-put k n (c ∷ cs) =
     cond-both (ltb (c .key) (n .key)) (c ∷ put cell-key n cs) (n ∷ cond (eqb (c .key) (n .key)) cs (c ∷ cs)) (λ m. find cell-key k m ≡ cond (eqb (n .key) k) (Some n) (find cell-key k (c ∷ cs)))
     (λ p.
-      ⊎-elim
-      (λ q.
-        let f : eqb (n .key) k ≡ false = grind (arith, tells) in
-        let e = eqb-true (c .key) k q in
-        find-hit k c (put cell-key n cs) e ∙ sym (cond-false (eqb (n .key) k) (Some n) (find cell-key k (c ∷ cs)) f ∙ find-hit k c cs e))
-      (λ q. rw q (find-put k n cs))
-      (cases-bool (eqb (c .key) k)))
+    ⊎-elim
+    (λ q.
+    let f : eqb (n .key) k ≡ false = grind (arith, tells) in
+    let e = eqb-true (c .key) k q in
+    find-hit k c (put cell-key n cs) e ∙ sym (cond-false (eqb (n .key) k) (Some n) (find cell-key k (c ∷ cs)) f ∙ find-hit k c cs e))
+    (λ q. rw q (find-put k n cs))
+    (cases-bool (eqb (c .key) k)))
     (λ p.
-      cond-both (eqb (c .key) (n .key)) cs (c ∷ cs) (λ m. find cell-key k (n ∷ m) ≡ cond (eqb (n .key) k) (Some n) (find cell-key k (c ∷ cs)))
-      (λ q. ⊎-elim (λ s. rw s refl) (λ s. let f : eqb (c .key) k ≡ false = grind (arith, tells) in rw (s, f) refl) (cases-bool (eqb (n .key) k)))
-      (λ q. refl))
+    cond-both (eqb (c .key) (n .key)) cs (c ∷ cs) (λ m. find cell-key k (n ∷ m) ≡ cond (eqb (n .key) k) (Some n) (find cell-key k (c ∷ cs)))
+    (λ q. ⊎-elim (λ s. rw s refl) (λ s. let f : eqb (c .key) k ≡ false = grind (arith, tells) in rw (s, f) refl) (cases-bool (eqb (n .key) k)))
+    (λ q. refl))
 
 pub find-without : (k j : ℕ) (m : List Cell) → find cell-key k (without cell-key j m) ≡ cond (eqb j k) None (find cell-key k m)
 find-without k j [] = cond-both (eqb j k) None None (λ o. None ≡ o) (λ _. refl) (λ _. refl)
@@ -54,13 +54,13 @@ find-without k j (c ∷ cs) =
     cond-both (eqb (c .key) j) (without cell-key j cs) (c ∷ without cell-key j cs) (λ m. find cell-key k m ≡ cond (eqb j k) None (find cell-key k (c ∷ cs)))
     (λ p. find-without k j cs ∙ ⊎-elim (λ s. rw s refl) (λ s. let f : eqb (c .key) k ≡ false = grind (arith, tells) in rw (s, f) refl) (cases-bool (eqb j k)))
     (λ p.
-      ⊎-elim
-      (λ s.
-        let f : eqb j k ≡ false = grind (arith, tells) in
-        let e = eqb-true (c .key) k s in
-        find-hit k c (without cell-key j cs) e ∙ sym (cond-false (eqb j k) None (find cell-key k (c ∷ cs)) f ∙ find-hit k c cs e))
-      (λ s. rw s (find-without k j cs))
-      (cases-bool (eqb (c .key) k)))
+    ⊎-elim
+    (λ s.
+    let f : eqb j k ≡ false = grind (arith, tells) in
+    let e = eqb-true (c .key) k s in
+    find-hit k c (without cell-key j cs) e ∙ sym (cond-false (eqb j k) None (find cell-key k (c ∷ cs)) f ∙ find-hit k c cs e))
+    (λ s. rw s (find-without k j cs))
+    (cases-bool (eqb (c .key) k)))
 
 -- in order, a key before the first is absent
 pub before-first : (k : ℕ) (c : Cell) (cs : List Cell) → ascending (ranks (c ∷ cs)) ≡ true → k < c .key → find cell-key k (c ∷ cs) ≡ None
@@ -88,21 +88,21 @@ same-maps (c ∷ cs) (d ∷ ds) p q h =
     ⊎-elim
     (λ e. absurd (some-none c (sym (find-hit (c .key) c cs refl) ∙ (h (c .key) ∙ before-first (c .key) d ds q (ltb-true (c .key) (d .key) e)))))
     (λ e.
-      ⊎-elim
-      (λ s.
-        let i = eqb-true (c .key) (d .key) s in
-        let a : _≡_ {A = Option Cell} (Some c) (Some d) = sym (find-hit (d .key) c cs i) ∙ (h (d .key) ∙ find-hit (d .key) d ds refl) in
-        let b : c ≡ d = cc in
-        let t : cs ≡ ds = same-maps cs ds (tail-ascends c cs p) (tail-ascends d ds q) (λ k.
-          ⊎-elim
-          (λ z. absent-after k c cs p (eqb-true (c .key) k z) ∙ sym (absent-after k d ds q (sym i ∙ eqb-true (c .key) k z)))
-          (λ z. let z′ : eqb (d .key) k ≡ false = grind (arith, tells) in sym (find-past k c cs z) ∙ (h k ∙ find-past k d ds z′))
-          (cases-bool (eqb (c .key) k))) in
-        ap (λ x. x ∷ cs) b ∙ ap (λ xs. d ∷ xs) t)
-      (λ s.
-        let f = ltb-false (c .key) (d .key) e in
-        absurd (some-none d (sym (find-hit (d .key) d ds refl) ∙ (sym (h (d .key)) ∙ before-first (d .key) c cs p (grind (arith, tells))))))
-      (cases-bool (eqb (c .key) (d .key))))
+    ⊎-elim
+    (λ s.
+    let i = eqb-true (c .key) (d .key) s in
+    let a : _≡_ {A = Option Cell} (Some c) (Some d) = sym (find-hit (d .key) c cs i) ∙ (h (d .key) ∙ find-hit (d .key) d ds refl) in
+    let b : c ≡ d = cc in
+    let t : cs ≡ ds = same-maps cs ds (tail-ascends c cs p) (tail-ascends d ds q) (λ k.
+    ⊎-elim
+    (λ z. absent-after k c cs p (eqb-true (c .key) k z) ∙ sym (absent-after k d ds q (sym i ∙ eqb-true (c .key) k z)))
+    (λ z. let z′ : eqb (d .key) k ≡ false = grind (arith, tells) in sym (find-past k c cs z) ∙ (h k ∙ find-past k d ds z′))
+    (cases-bool (eqb (c .key) k))) in
+    ap (λ x. x ∷ cs) b ∙ ap (λ xs. d ∷ xs) t)
+    (λ s.
+    let f = ltb-false (c .key) (d .key) e in
+    absurd (some-none d (sym (find-hit (d .key) d ds refl) ∙ (sym (h (d .key)) ∙ before-first (d .key) c cs p (grind (arith, tells))))))
+    (cases-bool (eqb (c .key) (d .key))))
     (cases-bool (ltb (c .key) (d .key)))
 
 headed-put : (j : ℕ) (n : Cell) (m : List Cell) → headed j (ranks m) ≡ true → ltb j (n .key) ≡ true → headed j (ranks (put cell-key n m)) ≡ true
@@ -119,9 +119,9 @@ ascends-put n (c ∷ cs) h =
     cond-both (ltb (c .key) (n .key)) (c ∷ put cell-key n cs) (n ∷ cond (eqb (c .key) (n .key)) cs (c ∷ cs)) (λ m. ascending (ranks m) ≡ true)
     (λ p. and-from (headed (c .key) (ranks (put cell-key n cs))) (ascending (ranks (put cell-key n cs))) (headed-put (c .key) n cs (b .0) p) (ascends-put n cs (b .1)))
     (λ p.
-      cond-both (eqb (c .key) (n .key)) cs (c ∷ cs) (λ m. ascending (ranks (n ∷ m)) ≡ true)
-      (λ s. subst (λ k. ascending (k ∷ ranks cs) ≡ true) (eqb-true (c .key) (n .key) s) h)
-      (λ s. and-from (ltb (n .key) (c .key)) (ascending (ranks (c ∷ cs))) (grind (arith, tells)) h))
+    cond-both (eqb (c .key) (n .key)) cs (c ∷ cs) (λ m. ascending (ranks (n ∷ m)) ≡ true)
+    (λ s. subst (λ k. ascending (k ∷ ranks cs) ≡ true) (eqb-true (c .key) (n .key) s) h)
+    (λ s. and-from (ltb (n .key) (c .key)) (ascending (ranks (c ∷ cs))) (grind (arith, tells)) h))
 
 headed-over : (j : ℕ) (c : Cell) (cs : List Cell) → ltb j (c .key) ≡ true → headed (c .key) (ranks cs) ≡ true → headed j (ranks cs) ≡ true
 headed-over j c [] l h = refl
@@ -151,9 +151,9 @@ length-put-new n (c ∷ cs) h =
     cond-both (ltb (c .key) (n .key)) (c ∷ put cell-key n cs) (n ∷ cond (eqb (c .key) (n .key)) cs (c ∷ cs)) (λ m. length m ≡ suc (length (c ∷ cs)))
     (λ p. ap suc (length-put-new n cs (sym (find-past (n .key) c cs (grind (arith, tells))) ∙ h)))
     (λ p.
-      cond-both (eqb (c .key) (n .key)) cs (c ∷ cs) (λ m. suc (length m) ≡ suc (length (c ∷ cs)))
-      (λ s. absurd (some-none c (sym (find-hit (n .key) c cs (eqb-true (c .key) (n .key) s)) ∙ h)))
-      (λ s. refl))
+    cond-both (eqb (c .key) (n .key)) cs (c ∷ cs) (λ m. suc (length m) ≡ suc (length (c ∷ cs)))
+    (λ s. absurd (some-none c (sym (find-hit (n .key) c cs (eqb-true (c .key) (n .key) s)) ∙ h)))
+    (λ s. refl))
 
 pub length-put-old : (n : Cell) (m : List Cell) → ascending (ranks m) ≡ true → isSome (find cell-key (n .key) m) ≡ true → length (put cell-key n m) ≡ length m
 length-put-old n [] asc h = absurd (both-ways false refl h)
@@ -161,9 +161,9 @@ length-put-old n (c ∷ cs) asc h =
     cond-both (ltb (c .key) (n .key)) (c ∷ put cell-key n cs) (n ∷ cond (eqb (c .key) (n .key)) cs (c ∷ cs)) (λ m. length m ≡ length (c ∷ cs))
     (λ p. ap suc (length-put-old n cs (tail-ascends c cs asc) (sym (ap isSome (find-past (n .key) c cs (grind (arith, tells)))) ∙ h)))
     (λ p.
-      cond-both (eqb (c .key) (n .key)) cs (c ∷ cs) (λ m. suc (length m) ≡ length (c ∷ cs))
-      (λ s. refl)
-      (λ s. absurd (both-ways (isSome (find cell-key (n .key) (c ∷ cs))) (ap isSome (before-first (n .key) c cs asc (grind (arith, tells)))) h)))
+    cond-both (eqb (c .key) (n .key)) cs (c ∷ cs) (λ m. suc (length m) ≡ length (c ∷ cs))
+    (λ s. refl)
+    (λ s. absurd (both-ways (isSome (find cell-key (n .key) (c ∷ cs))) (ap isSome (before-first (n .key) c cs asc (grind (arith, tells)))) h)))
 
 pub without-absent : (k : ℕ) (m : List Cell) → find cell-key k m ≡ None → without cell-key k m ≡ m
 without-absent k [] h = refl

@@ -88,7 +88,7 @@ moved old es from to n i le fits lt is =
     let e : to + i + (from - to) ≡ from + i = omega arith in
     let d : drop (to + i) (overlay to (take i (drop from old)) old) ≡ drop (to + i) old = drop-overlay to xs old f (to + i) (omega arith) in
     let g : getD (overlay to (take i (drop from old)) old) (from + i) 0 ≡ getD old (from + i) 0 =
-      ap (λ j. getD L j 0) (sym e) ∙ (sym (getD-drop (to + i) L (from - to) 0) ∙ (ap (λ ys. getD ys (from - to) 0) d ∙ (getD-drop (to + i) old (from - to) 0 ∙ ap (λ j. getD old j 0) e))) in
+    ap (λ j. getD L j 0) (sym e) ∙ (sym (getD-drop (to + i) L (from - to) 0) ∙ (ap (λ ys. getD ys (from - to) 0) d ∙ (getD-drop (to + i) old (from - to) 0 ∙ ap (λ j. getD old j 0) e))) in
     let b = getD old (from + i) 0 in
     let t : take (i + 1) (drop from old) ≡ take i (drop from old) ++ getD old (from + i) 0 ∷ [] = take-more (drop from old) i 0 (omega arith) ∙ ap (λ x. take i (drop from old) ++ x ∷ []) (getD-drop from old i 0) in
     ap (λ ys. set ys (to + i) (getD ys (from + i) 0)) is ∙ (ap (set L (to + i)) g ∙ (overlay-set (to + i) L b (omega arith) ∙ (overlay-overlay to xs old f (b ∷ []) (to + i) (omega arith) (omega arith) ∙ ap (λ ys. overlay to ys old) (sym t))))
@@ -99,8 +99,8 @@ two-overlays at k m n bs ys zs ys′ zs′ p q kl ml nl fits =
     (ap (λ xs. putMid m n xs zs′) (overlay-putMid at k bs ys′ kl) ∙ (overlay-putMid m n (overlay at ys′ bs) zs′ nl ∙ overlay-overlay at ys′ bs (omega arith) zs′ m ml (omega arith))))
 
 pub zeroes : (bs new fill P : List ℕ) (used to : ℕ) → used ≤ length bs → length new ≡ used → take to new ≡ P → to ≤ used →
-  fill ≡ replicate (length (take (length (new ++ drop (used - 0) bs) - to) (drop to (new ++ drop (used - 0) bs)))) 0 →
-  putMid to (length (new ++ drop (used - 0) bs) - to) (new ++ drop (used - 0) bs) fill ≡ P ++ replicate (length bs - length P) 0
+    fill ≡ replicate (length (take (length (new ++ drop (used - 0) bs) - to) (drop to (new ++ drop (used - 0) bs)))) 0 →
+    putMid to (length (new ++ drop (used - 0) bs) - to) (new ++ drop (used - 0) bs) fill ≡ P ++ replicate (length bs - length P) 0
 zeroes bs new fill P used to le ln is tu fl =
     let X = new ++ drop (used - 0) bs in
     let lp : length P ≡ to = sym (ap length is) ∙ length-take-le to new (omega arith) in

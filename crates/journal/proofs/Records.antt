@@ -72,12 +72,12 @@ put-back w c f g e =
     let v : record-version r ≡ c .pair .version = version-as s o c f g ∙ (ap (λ x. cond (eqb (c .pair .version) (c .key)) x (c .pair .version)) (left-out (c .key) 0) ∙ left-out (c .pair .version) (c .key)) in
     let cell : ℕ → ℕ → List ℕ → Cell = λ x y z. record { key = x; pair = record { version = y; value = z } } in
     let h = whole-as s o c w e in
-    record
-      { wholly = h
-      ; long = whole-size w r h
-      ; puts = is-put-as s o c
-      ; says = ap (λ x. cell x (record-version r) (record-value r)) k ∙ (ap (λ y. cell (c .key) y (record-value r)) v ∙ ap (cell (c .key) (c .pair .version)) (value-as s o c))
-      }
+    record {
+      wholly = h;
+      long = whole-size w r h;
+      puts = is-put-as s o c;
+      says = ap (λ x. cell x (record-version r) (record-value r)) k ∙ (ap (λ y. cell (c .key) y (record-value r)) v ∙ ap (cell (c .key) (c .pair .version)) (value-as s o c));
+    }
 
 -- a remove, by whether the key is left out
 remove-as : (s : Bool) (c : Cell) (w : ℕ) → c .key < 2 ^ 48 → (record-key (encoded (remove-map s) c) ≡ cond s 0 (c .key)) × (whole w (encoded (remove-map s) c) ≡ true) × (is-put (encoded (remove-map s) c) ≡ false)

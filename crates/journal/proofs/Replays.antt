@@ -51,11 +51,11 @@ mentions-live k (r ∷ rs) h =
     ⊎-elim
     (λ s. absurd (both-ways (mentions k (r ∷ rs)) h (rw s refl)))
     (λ s.
-      let t : mentions k rs ≡ false = rw s at h in
-      let i = mentions-live k rs t in
-      cond-both (is-put r) (cond (mentions (record-key r) rs) (live rs) (r ∷ live rs)) (live rs) (λ xs. mentions k xs ≡ false)
-      (λ _. cond-both (mentions (record-key r) rs) (live rs) (r ∷ live rs) (λ xs. mentions k xs ≡ false) (λ _. i) (λ _. rw s i))
-      (λ _. i))
+    let t : mentions k rs ≡ false = rw s at h in
+    let i = mentions-live k rs t in
+    cond-both (is-put r) (cond (mentions (record-key r) rs) (live rs) (r ∷ live rs)) (live rs) (λ xs. mentions k xs ≡ false)
+    (λ _. cond-both (mentions (record-key r) rs) (live rs) (r ∷ live rs) (λ xs. mentions k xs ≡ false) (λ _. i) (λ _. rw s i))
+    (λ _. i))
     (cases-bool (eqb (record-key r) k))
 
 look-none : (o : Option Cell) (k : ℕ) (rs : List (List ℕ)) → mentions k rs ≡ false → look-on o k rs ≡ o
@@ -97,21 +97,21 @@ look-live k [] = refl
 look-live k (r ∷ rs) =
     ⊎-elim
     (λ s.
-      let kr : record-key r ≡ k = eqb-true (record-key r) k s in
-      ⊎-elim
-      (λ p.
-        ⊎-elim
-        (λ m. ap (look-on None k) (live-old r rs p m) ∙ (look-live k rs ∙ (look-any None (Some (record-cell r)) k rs (subst (λ j. mentions j rs ≡ true) kr m) ∙ sym (look-hit None k r rs s p))))
-        (λ m.
-          let m′ : mentions k rs ≡ false = subst (λ j. mentions j rs ≡ false) kr m in
-          ap (look-on None k) (live-kept r rs p m) ∙ (look-hit None k r (live rs) s p ∙ (look-none (Some (record-cell r)) k (live rs) (mentions-live k rs m′) ∙ (sym (look-none (Some (record-cell r)) k rs m′) ∙ sym (look-hit None k r rs s p)))))
-        (cases-bool (mentions (record-key r) rs)))
-      (λ p. ap (look-on None k) (live-gone r rs p) ∙ (look-live k rs ∙ sym (look-gone None k r rs s p)))
-      (cases-bool (is-put r)))
+    let kr : record-key r ≡ k = eqb-true (record-key r) k s in
+    ⊎-elim
+    (λ p.
+    ⊎-elim
+    (λ m. ap (look-on None k) (live-old r rs p m) ∙ (look-live k rs ∙ (look-any None (Some (record-cell r)) k rs (subst (λ j. mentions j rs ≡ true) kr m) ∙ sym (look-hit None k r rs s p))))
+    (λ m.
+    let m′ : mentions k rs ≡ false = subst (λ j. mentions j rs ≡ false) kr m in
+    ap (look-on None k) (live-kept r rs p m) ∙ (look-hit None k r (live rs) s p ∙ (look-none (Some (record-cell r)) k (live rs) (mentions-live k rs m′) ∙ (sym (look-none (Some (record-cell r)) k rs m′) ∙ sym (look-hit None k r rs s p)))))
+    (cases-bool (mentions (record-key r) rs)))
+    (λ p. ap (look-on None k) (live-gone r rs p) ∙ (look-live k rs ∙ sym (look-gone None k r rs s p)))
+    (cases-bool (is-put r)))
     (λ s.
-      cond-both (is-put r) (cond (mentions (record-key r) rs) (live rs) (r ∷ live rs)) (live rs) (λ xs. look-on None k xs ≡ look-on None k (r ∷ rs))
-      (λ _. cond-both (mentions (record-key r) rs) (live rs) (r ∷ live rs) (λ xs. look-on None k xs ≡ look-on None k (r ∷ rs)) (λ _. look-live k rs ∙ sym (look-past None k r rs s)) (λ _. look-past None k r (live rs) s ∙ (look-live k rs ∙ sym (look-past None k r rs s))))
-      (λ _. look-live k rs ∙ sym (look-past None k r rs s)))
+    cond-both (is-put r) (cond (mentions (record-key r) rs) (live rs) (r ∷ live rs)) (live rs) (λ xs. look-on None k xs ≡ look-on None k (r ∷ rs))
+    (λ _. cond-both (mentions (record-key r) rs) (live rs) (r ∷ live rs) (λ xs. look-on None k xs ≡ look-on None k (r ∷ rs)) (λ _. look-live k rs ∙ sym (look-past None k r rs s)) (λ _. look-past None k r (live rs) s ∙ (look-live k rs ∙ sym (look-past None k r rs s))))
+    (λ _. look-live k rs ∙ sym (look-past None k r rs s)))
     (cases-bool (eqb (record-key r) k))
 
 -- packing keeps the map
@@ -126,17 +126,17 @@ count-on m (r ∷ rs) h =
     let i = count-on m rs h′ in
     cond-both (is-put r) (cond (mentions (record-key r) rs) (live rs) (r ∷ live rs)) (live rs) (λ xs. length (replay-on m xs) ≡ length m + length xs)
     (λ p.
-      cond-both (mentions (record-key r) rs) (live rs) (r ∷ live rs) (λ xs. length (replay-on m xs) ≡ length m + length xs)
-      (λ _. i)
-      (λ u.
-        let n : length (put cell-key (record-cell r) m) ≡ suc (length m) = length-put-new (record-cell r) m (h (record-key r) (rw (eq-eqb (record-key r) (record-key r) refl) refl)) in
-        let j = count-on (put cell-key (record-cell r) m) rs (λ k t.
-          find-put k (record-cell r) m ∙
-          ⊎-elim
-          (λ s. absurd (both-ways (mentions (record-key r) rs) u (subst (λ x. mentions x rs ≡ true) (sym (eqb-true (record-key r) k s)) t)))
-          (λ s. rw s (h′ k t))
-          (cases-bool (eqb (record-key r) k))) in
-        ap (λ x. length (replay-on x (live rs))) (cond-true (is-put r) (put cell-key (record-cell r) m) (without cell-key (record-key r) m) p) ∙ omega arith))
+    cond-both (mentions (record-key r) rs) (live rs) (r ∷ live rs) (λ xs. length (replay-on m xs) ≡ length m + length xs)
+    (λ _. i)
+    (λ u.
+    let n : length (put cell-key (record-cell r) m) ≡ suc (length m) = length-put-new (record-cell r) m (h (record-key r) (rw (eq-eqb (record-key r) (record-key r) refl) refl)) in
+    let j = count-on (put cell-key (record-cell r) m) rs (λ k t.
+    find-put k (record-cell r) m ∙
+    ⊎-elim
+    (λ s. absurd (both-ways (mentions (record-key r) rs) u (subst (λ x. mentions x rs ≡ true) (sym (eqb-true (record-key r) k s)) t)))
+    (λ s. rw s (h′ k t))
+    (cases-bool (eqb (record-key r) k))) in
+    ap (λ x. length (replay-on x (live rs))) (cond-true (is-put r) (put cell-key (record-cell r) m) (without cell-key (record-key r) m) p) ∙ omega arith))
     (λ _. i)
 
 pub count-live : (rs : List (List ℕ)) → length (live rs) ≡ length (replay rs)

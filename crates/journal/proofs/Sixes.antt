@@ -13,7 +13,7 @@ use Rattle.journal.specs.Record.{six-bytes, rank-at}
 
 -- six bytes at a place, one by one
 pub rank-at-is : (i : ℕ) (bs : List ℕ) → i + 6 ≤ length bs →
-  rank-at i bs ≡ (getD bs i 0 + getD bs (i + 1) 0 * 256 + getD bs (i + 2) 0 * 65536 + getD bs (i + 3) 0 * 16777216) * 65536 + (getD bs (i + 4) 0 + getD bs (i + 5) 0 * 256)
+    rank-at i bs ≡ (getD bs i 0 + getD bs (i + 1) 0 * 256 + getD bs (i + 2) 0 * 65536 + getD bs (i + 3) 0 * 16777216) * 65536 + (getD bs (i + 4) 0 + getD bs (i + 5) 0 * 256)
 unfolding rank-at
 rank-at-is i bs le =
     let e₀ = drop-more bs i 0 (omega arith) in
@@ -50,8 +50,8 @@ rank-fits v n s = omega arith
 
 -- the bytes of a version from those of its numbers, as the standard library gives them
 pub six-is : (v : Version) (n s : List ℕ) → v .seat < 2 ^ 16 →
-  n ≡ v .number % 256 ∷ (v .number / 256 % 256 ∷ (v .number / 65536 % 256 ∷ (v .number / 16777216 % 256 ∷ []))) → s ≡ v .seat % 256 ∷ (v .seat / 256 % 256 ∷ []) →
-  getD n 0 0 ∷ (getD n 1 0 ∷ (getD n 2 0 ∷ (getD n 3 0 ∷ (getD s 0 0 ∷ (getD s 1 0 ∷ []))))) ≡ six-bytes (rank v)
+    n ≡ v .number % 256 ∷ (v .number / 256 % 256 ∷ (v .number / 65536 % 256 ∷ (v .number / 16777216 % 256 ∷ []))) → s ≡ v .seat % 256 ∷ (v .seat / 256 % 256 ∷ []) →
+    getD n 0 0 ∷ (getD n 1 0 ∷ (getD n 2 0 ∷ (getD n 3 0 ∷ (getD s 0 0 ∷ (getD s 1 0 ∷ []))))) ≡ six-bytes (rank v)
 unfolding six-bytes
 six-is v n s lt en es =
     let d : rank v / 65536 ≡ v .number = omega arith in

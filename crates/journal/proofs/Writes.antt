@@ -28,9 +28,9 @@ encoded-length b c =
     omega arith
 
 pub written : (at : ℕ) (bs : List ℕ) (b : ℕ) (c : Cell) (mid to : ℕ) (b₂ b₃ b₄ : List ℕ) → at + length (encoded b c) ≤ length bs →
-  b₂ ≡ overlay (at + 1) (field (form b .key) (six-bytes (c .key))) (set bs at b) → mid ≡ at + 1 + length (field (form b .key) (six-bytes (c .key))) →
-  b₃ ≡ overlay mid (field (form b .version) (six-bytes (c .pair .version))) b₂ → to ≡ mid + length (field (form b .version) (six-bytes (c .pair .version))) →
-  b₄ ≡ overlay to (field (form b .value) (c .pair .value)) b₃ → b₄ ≡ overlay at (encoded b c) bs
+    b₂ ≡ overlay (at + 1) (field (form b .key) (six-bytes (c .key))) (set bs at b) → mid ≡ at + 1 + length (field (form b .key) (six-bytes (c .key))) →
+    b₃ ≡ overlay mid (field (form b .version) (six-bytes (c .pair .version))) b₂ → to ≡ mid + length (field (form b .version) (six-bytes (c .pair .version))) →
+    b₄ ≡ overlay to (field (form b .value) (c .pair .value)) b₃ → b₄ ≡ overlay at (encoded b c) bs
 unfolding encoded
 written at bs b c mid to b₂ b₃ b₄ fits i₂ mi i₃ ti i₄ =
     let K = field (form b .key) (six-bytes (c .key)) in

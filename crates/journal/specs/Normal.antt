@@ -19,7 +19,7 @@ normal-cell normal c = record { key = c .key; pair = record { version = c .pair 
 -- What a journal means as a provider of values of a width, for which `normal` gives the bytes of the value that is read
 -- from any bytes: the replay of its log. For values of another width it has capacity 0 and holds nothing.
 abbrev pub provider-of : ℕ → (List ℕ → List ℕ) → Contents → Provider
-provider-of wide normal s = record
-  { capacity = cond (serves wide s) (s .room) 0
-  ; cells = cond (serves wide s) (map (normal-cell normal) (replay (s .records))) []
-  }
+provider-of wide normal s = record {
+  capacity = cond (serves wide s) (s .room) 0;
+  cells = cond (serves wide s) (map (normal-cell normal) (replay (s .records))) [];
+}

@@ -24,7 +24,16 @@ use values::version::Key;
 use values::version::Version;
 
 // Appends a record under a bit map, after packing if it does not fit, and answers where the log then ends.
-fn append(bytes: &mut [u8], used: usize, w: usize, room: usize, map: u8, key: Key, version: Version, value: &[u8]) -> usize
+fn append(
+    bytes: &mut [u8],
+    used: usize,
+    w: usize,
+    room: usize,
+    map: u8,
+    key: Key,
+    version: Version,
+    value: &[u8],
+) -> usize
     requires narrow { ⌜ w ≤ 64 ⌝ }
     requires log { ⌜ Logged w used (now bytes) (log w (take used (now bytes))) ⌝ }
     requires whole { ⌜ whole w (encoded map (cell key version (now value))) ≡ true ⌝ }
@@ -56,11 +65,23 @@ fn map_of_put(key: Key, version: Version) -> u8
 fn map_of_remove(key: Key) -> u8
     ensures { λ r. ⌜ r ≡ remove-map (eqb (rank key) 0) ⌝ }
 {
-    if key.same(Version { number: 0, seat: 0 }) { 0 } else { 1 }
+    if key.same(Version { number: 0, seat: 0 }) {
+        0
+    } else {
+        1
+    }
 }
 
 // Puts a version and a value, by its bytes, under a key.
-pub(crate) fn put_in(bytes: &mut [u8], extent: Extent, w: usize, room: usize, key: Key, version: Version, value: &[u8]) -> Result<Extent, Refusal>
+pub(crate) fn put_in(
+    bytes: &mut [u8],
+    extent: Extent,
+    w: usize,
+    room: usize,
+    key: Key,
+    version: Version,
+    value: &[u8],
+) -> Result<Extent, Refusal>
     requires narrow { ⌜ w ≤ 64 ⌝ }
     requires wide { ⌜ length (now value) ≡ w ⌝ }
     requires log { ⌜ Logged w (extent .used) (now bytes) (log w (take (extent .used) (now bytes))) ⌝ }
@@ -98,5 +119,8 @@ pub(crate) fn remove_in(bytes: &mut [u8], extent: Extent, w: usize, room: usize,
     }
     let map = map_of_remove(key);
     let used = append(bytes, used, w, room, map, key, key, &[]);
-    Extent { used, count: count - 1 }
+    Extent {
+        used,
+        count: count - 1,
+    }
 }

@@ -12,5 +12,4 @@ use values::version::Version;
 pub fn codec_lawful(key: Key, version: Version, value: &[u8])
     ensures put { λ _. ⌜ Reads-put (length (now (value .entry))) (put-record (cell key version (now (value .entry)))) (cell key version (now (value .entry))) ⌝ }
     ensures remove { λ _. ⌜ Reads-remove (length (now (value .entry))) (remove-record (rank key)) (rank key) ⌝ }
-{
-}
+{}

@@ -83,11 +83,19 @@ pub impl<'a, V: Canonical> Store<V> for Journal<'a> as JournalStore {
     fn lawful(&self) {}
 
     fn capacity(&self) -> usize {
-        if self.width == V::size() { self.room } else { 0 }
+        if self.width == V::size() {
+            self.room
+        } else {
+            0
+        }
     }
 
     fn count(&self) -> usize {
-        if self.width == V::size() { self.count } else { 0 }
+        if self.width == V::size() {
+            self.count
+        } else {
+            0
+        }
     }
 
     fn get(&self, key: Key) -> Option<Stored<V>> {
@@ -137,7 +145,8 @@ pub impl<'a, V: Canonical> Store<V> for Journal<'a> as JournalStore {
             used: self.used,
             count: self.count,
         };
-        let extent = self.region.put(extent, self.width, self.room, key, version, sheet)?;
+        let extent = self.region
+            .put(extent, self.width, self.room, key, version, sheet)?;
         self.used = extent.used;
         self.count = extent.count;
         Ok(())

@@ -18,7 +18,15 @@ use values::version::Key;
 use values::version::Version;
 
 impl<'a> Region<'a> {
-    pub(crate) fn put(&mut self, extent: Extent, w: usize, room: usize, key: Key, version: Version, value: &[u8]) -> Result<Extent, Refusal>
+    pub(crate) fn put(
+        &mut self,
+        extent: Extent,
+        w: usize,
+        room: usize,
+        key: Key,
+        version: Version,
+        value: &[u8],
+    ) -> Result<Extent, Refusal>
         requires narrow { ⌜ w ≤ 64 ⌝ }
         requires wide { ⌜ length (now value) ≡ w ⌝ }
         requires log { ⌜ Logged w (extent .used) (now (now self .bytes)) (log w (take (extent .used) (now (now self .bytes)))) ⌝ }

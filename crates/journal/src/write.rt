@@ -33,7 +33,14 @@ fn write_field(bytes: &mut [u8], at: usize, stands: bool, field: &[u8]) -> usize
 }
 
 // Writes a record under a bit map at `at`, and answers where it ends. The form of the bit map says which fields stand.
-pub(crate) fn write_record(bytes: &mut [u8], at: usize, map: u8, key: Key, version: Version, value: &[u8]) -> usize
+pub(crate) fn write_record(
+    bytes: &mut [u8],
+    at: usize,
+    map: u8,
+    key: Key,
+    version: Version,
+    value: &[u8],
+) -> usize
     requires { ⌜ at + length (encoded map (cell key version (now value))) ≤ length (now bytes) ⌝ }
     ensures size { λ r. ⌜ r ≡ at + length (encoded map (cell key version (now (value .entry)))) ⌝ }
     ensures after { λ r. ⌜ now (bytes .exit) ≡ overlay at (encoded map (cell key version (now (value .entry)))) (now (bytes .entry)) ⌝ }

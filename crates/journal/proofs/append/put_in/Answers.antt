@@ -26,9 +26,9 @@ append-used-requires c κs =
     let k = c .pre .counted in
     let l = c .pre .few in
     let some : 1 ≤ c .args .room =
-      ⊎-elim (λ p. omega (arith, p .1))
-      (λ p. let n = some-long (rank (c .args .key)) (replay rs) (known w (c .args .extent .used) (rank (c .args .key)) (c .args .bytes .now) true (sym p ∙ c .is-present-present .ensures)) in omega arith)
-      (c .else-not-present .either) in
+    ⊎-elim (λ p. omega (arith, p .1))
+    (λ p. let n = some-long (rank (c .args .key)) (replay rs) (known w (c .args .extent .used) (rank (c .args .key)) (c .args .bytes .now) true (sym p ∙ c .is-present-present .ensures)) in omega arith)
+    (c .else-not-present .either) in
     record { narrow = c .pre .narrow; log = c .pre .log; whole = ap (whole w) i ∙ b .wholly; few = omega arith; fits = c .pre .fits some }
 
 pub returns-then-present : need.returns-then-present

@@ -23,6 +23,7 @@ returns c =
     let e = size-is (c .args .w) (c .args .map) in
     let f = ap (λ (x : Form). x .length) (c .form-of-f .ensures) in
     let g = ap (λ (x : Form). x .value) (c .form-of-f .ensures) in
-    elim (c .if-f .came)
-    [ then-f v ↦ let h = cond-true (form (c .args .map) .value) (c .args .w) 0 (sym g ∙ v .if-f .taken) in omega (arith, v .result-is)
-    | else-f v ↦ let h = cond-false (form (c .args .map) .value) (c .args .w) 0 (sym g ∙ v .if-f .left) in omega (arith, v .result-is) ]
+    elim (c .if-f .came) [
+      | then-f v ↦ let h = cond-true (form (c .args .map) .value) (c .args .w) 0 (sym g ∙ v .if-f .taken) in omega (arith, v .result-is)
+      | else-f v ↦ let h = cond-false (form (c .args .map) .value) (c .args .w) 0 (sym g ∙ v .if-f .left) in omega (arith, v .result-is)
+    ]

@@ -12,7 +12,7 @@ returns-then-not-stands c =
 pub returns : need.returns
 returns c =
     let t = c .if-not-stands .left in
-    record
-      { size = rw t refl
-      ; after = field-written (c .args .at) _ (c .args .stands) (c .args .field .now) (c .copy-from-slice .last .self) (c .args .bytes .now) t (c .copy-from-slice .ensures .after) (omega arith)
-      }
+    record {
+      size = rw t refl;
+      after = field-written (c .args .at) _ (c .args .stands) (c .args .field .now) (c .copy-from-slice .last .self) (c .args .bytes .now) t (c .copy-from-slice .ensures .after) (omega arith);
+    }

@@ -62,13 +62,13 @@ returns c =
     let lk = ap length k in
     let lv = ap length v in
     let lx = ap length x in
-    record
-      { size = let m = c .write-field-mid .ensures .size in let t = c .write-field-to .ensures .size in let u = c .write-field .ensures .size in omega arith
-      ; after =
-        written (c .args .at) (c .args .bytes .now) (c .args .map) e (c .write-field-mid .result) (c .write-field-to .result) (c .write-field-mid .last .bytes) (c .write-field-to .last .bytes) (c .write-field .last .bytes) (c .pre)
-        (c .write-field-mid .ensures .after ∙ ap (λ ys. overlay (c .args .at + 1) ys (set (c .args .bytes .now) (c .args .at) (c .args .map))) k)
-        (c .write-field-mid .ensures .size ∙ ap (λ n. c .args .at + 1 + n) lk)
-        (c .write-field-to .ensures .after ∙ ap (λ ys. overlay (c .write-field-mid .result) ys (c .write-field-mid .last .bytes)) v)
-        (c .write-field-to .ensures .size ∙ ap (λ n. c .write-field-mid .result + n) lv)
-        (c .write-field .ensures .after ∙ ap (λ ys. overlay (c .write-field-to .result) ys (c .write-field-to .last .bytes)) x)
-      }
+    record {
+      size = let m = c .write-field-mid .ensures .size in let t = c .write-field-to .ensures .size in let u = c .write-field .ensures .size in omega arith;
+      after =
+          written (c .args .at) (c .args .bytes .now) (c .args .map) e (c .write-field-mid .result) (c .write-field-to .result) (c .write-field-mid .last .bytes) (c .write-field-to .last .bytes) (c .write-field .last .bytes) (c .pre)
+          (c .write-field-mid .ensures .after ∙ ap (λ ys. overlay (c .args .at + 1) ys (set (c .args .bytes .now) (c .args .at) (c .args .map))) k)
+          (c .write-field-mid .ensures .size ∙ ap (λ n. c .args .at + 1 + n) lk)
+          (c .write-field-to .ensures .after ∙ ap (λ ys. overlay (c .write-field-mid .result) ys (c .write-field-mid .last .bytes)) v)
+          (c .write-field-to .ensures .size ∙ ap (λ n. c .write-field-mid .result + n) lv)
+          (c .write-field .ensures .after ∙ ap (λ ys. overlay (c .write-field-to .result) ys (c .write-field-to .last .bytes)) x);
+    }

@@ -2,12 +2,10 @@ ghost use mathlib.Core.Path.{_≡_};
 ghost use mathlib.Core.List.{List};
 ghost use Prim.Native.Nat.{ℕ, _≤_};
 ghost use lib.ListN.{length};
-ghost use Rattle.std.specs.Options.{mapped};
 ghost use Rattle.values.specs.Rank.{rank};
 ghost use Rattle.values.specs.Refusals.{numbered};
 ghost use Rattle.stores.specs.Provider.{cell};
 ghost use Rattle.stores.specs.Operations.{put-answer, put-after, remove-after};
-ghost use Rattle.journal.specs.Log.{joined};
 ghost use Rattle.journal.specs.Contents.{room-in, Largest, empty, put-contents, remove-contents, pack-contents};
 ghost use Rattle.journal.specs.Normal.{provider-of};
 ghost use Rattle.journal.specs.Held.{contents-of, Holds};
@@ -57,13 +55,6 @@ impl<'a> Journal<'a> {
             used: 0,
             count: 0,
         }
-    }
-
-    // How many bytes the log takes up.
-    pub fn used(&self) -> usize
-        ensures { λ r. ⌜ r ≡ length (joined (contents-of (now (self .entry)) .records)) ⌝ }
-    {
-        self.used
     }
 
     // Packs the log: only the live records stay. A put or a remove does this itself where its record does not fit.

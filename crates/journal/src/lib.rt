@@ -13,5 +13,6 @@ mod keys;
 mod pack;
 mod region;
 mod regions;
+pub mod usage;
 mod walk;
 mod write;

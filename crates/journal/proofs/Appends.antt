@@ -1,15 +1,14 @@
 -- A record that is appended, and what its replay leaves.
-use mathlib.Core.Path.{_≡_, refl, sym, ap, subst, _∙_}
+use mathlib.Core.Path.{_≡_, refl, sym, ap, _∙_}
 use mathlib.Core.List.{List, [], _∷_, _++_}
-use mathlib.Core.Bool.{Bool, true, false, cond}
-use Prim.Native.Nat.{ℕ, _+_, _-_, _*_, _≤_, _<_, min}
+use mathlib.Core.Bool.{true, cond}
+use Prim.Native.Nat.{ℕ, _+_, _-_, _*_, _≤_, _<_}
 use native.Mathlib.Omega.{arith}
 use native.Mathlib.Nat.{mul-le-mul-right}
 use lib.Dec.{leb}
 use lib.ListN.{length, take, drop, replicate}
 use Rattle.std.proofs.shelf.Lists.{length-append, length-replicate, length-take-le, take-at, drop-at, drop-drop, drop-replicate, take-append-drop}
 use Rattle.std.proofs.shelf.Tests.{le-leb, lt-leb, cond-both, and-from}
-use Rattle.stores.specs.Provider.{Cell}
 use Rattle.journal.specs.Record.{bit-map, whole}
 use Rattle.journal.specs.Log.{log, sound, joined, filled, live, replay, step, appended}
 use Rattle.journal.specs.Walk.{overlay, packed, Logged}

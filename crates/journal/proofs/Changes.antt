@@ -1,15 +1,15 @@
 -- What a put and a remove leave, from what was appended.
 use mathlib.Core.Path.{_≡_, refl, sym, ap, subst, _∙_}
-use mathlib.Core.List.{List, [], _∷_, _++_}
-use mathlib.Core.Bool.{Bool, true, false, cond, _||_}
-use Prim.Native.Nat.{ℕ, suc, _+_, _-_, _≤_, _<_}
+use mathlib.Core.List.{List, []}
+use mathlib.Core.Bool.{Bool, true, false}
+use Prim.Native.Nat.{ℕ, _+_, _-_, _≤_, _<_}
 use native.Mathlib.Omega.{arith}
 use lib.Dec.{ltb}
 use lib.ListN.{length, take}
 use Rattle.std.specs.Options.{isSome}
 use Rattle.std.specs.declared.result.Result.{Result}
 use Rattle.std.specs.declared.result.Result.the-variants.{Ok, Err}
-use Rattle.std.proofs.shelf.Tests.{cond-true, cond-false, lt-ltb, or-left, or-right}
+use Rattle.std.proofs.shelf.Tests.{cond-true, lt-ltb, or-left, or-right}
 use Rattle.stores.specs.Keyed.{find, put, without}
 use Rattle.stores.specs.Provider.{Cell, cell-key}
 use Rattle.stores.specs.Operations.{room-for, put-answer}
@@ -18,7 +18,7 @@ use Rattle.journal.specs.Codec.{Reads-put, Reads-remove}
 use Rattle.journal.specs.Log.{log, sound, replay, appended}
 use Rattle.journal.specs.Contents.{contents, raw, put-log, remove-log}
 use Rattle.journal.specs.Walk.{Logged, Leaves}
-use Rattle.journal.proofs.Maps.{ranks, none-is, length-put-new, length-put-old, length-without}
+use Rattle.journal.proofs.Maps.{none-is, length-put-new, length-put-old, length-without}
 use Rattle.journal.proofs.Replays.{ascends-replay}
 use Rattle.journal.proofs.Records.{step-put, step-remove}
 use Rattle.journal.proofs.Appends.{replay-appended}

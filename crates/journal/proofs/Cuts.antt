@@ -1,11 +1,11 @@
 -- Bytes cut into records, and records joined to bytes.
-use mathlib.Core.Path.{_≡_, refl, sym, ap, subst, _∙_}
+use mathlib.Core.Path.{_≡_, refl, sym, ap, _∙_}
 use mathlib.Core.List.{List, [], _∷_, _++_}
-use mathlib.Core.Bool.{Bool, true, false, cond}
+use mathlib.Core.Bool.{true}
 use Prim.Native.Nat.{ℕ, zero, suc, _+_, _-_, _≤_, _<_}
 use native.Mathlib.Omega.{arith}
 use lib.ListN.{length, take, drop, getD}
-use Rattle.std.proofs.shelf.Lists.{length-drop, length-take, take-append-drop, take-at, drop-at, drop-drop, drop-more, drop-all, length-append, append-assoc, append-nil}
+use Rattle.std.proofs.shelf.Lists.{length-drop, length-take, take-append-drop, take-at, drop-at, drop-drop, drop-more, drop-all, append-assoc, append-nil}
 use Rattle.std.proofs.shelf.Tests.{and-parts, and-from}
 use Rattle.journal.specs.Forms.{size}
 use Rattle.journal.specs.Record.{bit-map, whole}
@@ -14,7 +14,7 @@ use Rattle.journal.specs.Walk.{Step}
 use Rattle.journal.proofs.Sizes.{size-pos, whole-size}
 
 -- enough is as good as more
-pub cut-more : (n m w : ℕ) (bs : List ℕ) → length bs ≤ n → length bs ≤ m → cut n w bs ≡ cut m w bs
+cut-more : (n m w : ℕ) (bs : List ℕ) → length bs ≤ n → length bs ≤ m → cut n w bs ≡ cut m w bs
 cut-more zero zero w bs p q = refl
 cut-more zero (suc m) w [] p q = refl
 cut-more zero (suc m) w (b ∷ bs) p q = absurd (omega arith)
@@ -26,19 +26,19 @@ cut-more (suc n) (suc m) w (b ∷ bs) p q =
     let l = length-drop (size w b) (b ∷ bs) in
     ap (λ rs. take (size w b) (b ∷ bs) ∷ rs) (cut-more n m w (drop (size w b) (b ∷ bs)) (omega arith) (omega arith))
 
-pub log-cons : (w b : ℕ) (bs : List ℕ) → log w (b ∷ bs) ≡ take (size w b) (b ∷ bs) ∷ log w (drop (size w b) (b ∷ bs))
+log-cons : (w b : ℕ) (bs : List ℕ) → log w (b ∷ bs) ≡ take (size w b) (b ∷ bs) ∷ log w (drop (size w b) (b ∷ bs))
 unfolding log
 log-cons w b bs =
     let s = size-pos w b in
     let l = length-drop (size w b) (b ∷ bs) in
     ap (λ rs. take (size w b) (b ∷ bs) ∷ rs) (cut-more (length bs) (length (drop (size w b) (b ∷ bs))) w (drop (size w b) (b ∷ bs)) (omega arith) (omega arith))
 
-pub log-nil : (w : ℕ) → log w [] ≡ []
+log-nil : (w : ℕ) → log w [] ≡ []
 unfolding log
 log-nil w = refl
 
 -- the records from a place on: one, and those after it
-pub log-at : (w : ℕ) (bs : List ℕ) (at : ℕ) → at < length bs → log w (drop at bs) ≡ take (size w (getD bs at 0)) (drop at bs) ∷ log w (drop (at + size w (getD bs at 0)) bs)
+log-at : (w : ℕ) (bs : List ℕ) (at : ℕ) → at < length bs → log w (drop at bs) ≡ take (size w (getD bs at 0)) (drop at bs) ∷ log w (drop (at + size w (getD bs at 0)) bs)
 log-at w bs at lt =
     let n = size w (getD bs at 0) in
     let e = drop-more bs at 0 lt in
@@ -79,7 +79,7 @@ sound-append w (r ∷ rs) ss p q =
     let g = and-parts (whole w r) (sound w rs) p in
     and-from (whole w r) (sound w (rs ++ ss)) (g .0) (sound-append w rs ss (g .1) q)
 
-pub joined-append : (rs ss : List (List ℕ)) → joined (rs ++ ss) ≡ joined rs ++ joined ss
+joined-append : (rs ss : List (List ℕ)) → joined (rs ++ ss) ≡ joined rs ++ joined ss
 joined-append [] ss = refl
 joined-append (r ∷ rs) ss = ap (λ xs. r ++ xs) (joined-append rs ss) ∙ sym (append-assoc r (joined rs) (joined ss))
 

@@ -1,8 +1,8 @@
 -- A walk that looks for a key.
-use mathlib.Core.Path.{_≡_, refl, sym, ap, subst, _∙_}
-use mathlib.Core.List.{List, [], _∷_}
-use mathlib.Core.Bool.{Bool, true, false, cond}
-use Prim.Native.Nat.{ℕ, _+_, _-_, _≤_, _<_, min}
+use mathlib.Core.Path.{_≡_, sym, ap, _∙_}
+use mathlib.Core.List.{List}
+use mathlib.Core.Bool.{true, false, cond}
+use Prim.Native.Nat.{ℕ, _+_, _-_, _≤_}
 use native.Mathlib.Omega.{arith}
 use lib.Dec.{eqb}
 use lib.ListN.{length, take, drop}
@@ -16,7 +16,7 @@ use Rattle.stores.specs.Keyed.{find}
 use Rattle.stores.specs.Provider.{Cell, cell-key}
 use Rattle.journal.specs.declared.found.Found.{Found}
 use Rattle.journal.specs.Forms.{form}
-use Rattle.journal.specs.Record.{bit-map, record-key, record-version, record-value, record-cell, is-put, whole}
+use Rattle.journal.specs.Record.{bit-map, record-key, record-version, record-value, record-cell, is-put}
 use Rattle.journal.specs.Log.{log, sound, replay}
 use Rattle.journal.specs.Walk.{Step, seen, look-on, found-in, Found-fits}
 use Rattle.journal.proofs.Sizes.{value-fits}

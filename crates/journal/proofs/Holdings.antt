@@ -1,7 +1,7 @@
 -- What a journal holds, and what it means as a provider, from its contents and its invariant.
 use mathlib.Core.Path.{_≡_, refl, sym, ap, _∙_}
-use mathlib.Core.List.{List, [], _∷_, _++_, map}
-use mathlib.Core.Bool.{Bool, true, false, cond}
+use mathlib.Core.List.{List, [], _++_, map}
+use mathlib.Core.Bool.{true, false}
 use mathlib.Core.Logic.{⊎-elim}
 use Prim.Native.Nat.{ℕ, _+_, _-_, _*_, _/_, _≤_, _<_}
 use native.Mathlib.Omega.{arith}
@@ -30,7 +30,6 @@ use Rattle.journal.specs.Contents.{Contents, contents, with-records, raw, serv
 use Rattle.journal.specs.Walk.{Logged, Leaves}
 use Rattle.journal.specs.Normal.{normal-cell, provider-of}
 use Rattle.journal.specs.Held.{bytes-of, contents-of, Holds}
-use Rattle.journal.proofs.Maps.{ranks}
 use Rattle.journal.proofs.Replays.{ascends-replay}
 use Rattle.journal.proofs.Appends.{used-is, bytes-are}
 use Rattle.journal.proofs.Normals.{ranks-normal, find-normal, provider-served, provider-other, provider-put, provider-remove, answer-put}

@@ -1,9 +1,9 @@
 -- Maps in ascending order of their keys are equal where every key has the same cell.
 use mathlib.Core.Path.{_≡_, refl, sym, ap, subst, _∙_}
 use mathlib.Core.List.{List, [], _∷_, map}
-use mathlib.Core.Bool.{Bool, true, false, cond, _&&_}
-use mathlib.Core.Logic.{_⊎_, inl, inr, ⊎-elim}
-use Prim.Native.Nat.{ℕ, zero, suc, _+_, _<_, _≤_}
+use mathlib.Core.Bool.{true, false, cond}
+use mathlib.Core.Logic.{⊎-elim}
+use Prim.Native.Nat.{ℕ, suc, _<_, _≤_}
 use native.Mathlib.Omega.{arith}
 use lib.Dec.{eqb, ltb}
 use lib.ListN.{length}
@@ -63,7 +63,7 @@ find-without k j (c ∷ cs) =
     (cases-bool (eqb (c .key) k)))
 
 -- in order, a key before the first is absent
-pub before-first : (k : ℕ) (c : Cell) (cs : List Cell) → ascending (ranks (c ∷ cs)) ≡ true → k < c .key → find cell-key k (c ∷ cs) ≡ None
+before-first : (k : ℕ) (c : Cell) (cs : List Cell) → ascending (ranks (c ∷ cs)) ≡ true → k < c .key → find cell-key k (c ∷ cs) ≡ None
 before-first k c [] asc l = find-past k c [] (grind (arith, tells))
 before-first k c (d ∷ ds) asc l =
     let h = and-parts (ltb (c .key) (d .key)) (ascending (ranks (d ∷ ds))) asc in

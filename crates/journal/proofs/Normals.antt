@@ -18,8 +18,8 @@ use Rattle.stores.specs.Provider.{Cell, Provider, cell-key}
 use Rattle.stores.specs.Operations.{room-for, put-answer, put-after, remove-after}
 use Rattle.journal.specs.Record.{put-record, remove-record}
 use Rattle.journal.specs.Codec.{Reads-put, Reads-remove}
-use Rattle.journal.specs.Log.{replay, live, appended}
-use Rattle.journal.specs.Contents.{Contents, with-records, raw, serves, put-log, remove-log, put-contents, remove-contents, pack-contents}
+use Rattle.journal.specs.Log.{replay, appended}
+use Rattle.journal.specs.Contents.{Contents, raw, serves, put-log, remove-log, put-contents, remove-contents, pack-contents}
 use Rattle.journal.specs.Normal.{code-or, normal-cell, provider-of}
 use Rattle.journal.proofs.Maps.{ranks, none-is, without-absent}
 use Rattle.journal.proofs.Records.{step-put, step-remove}
@@ -33,7 +33,7 @@ kept-code wide decoded coded blank bs m l d =
 
 -- the map of a log after a put and after a remove
 
-pub replay-put : (w : ℕ) (c : Cell) (s : Contents) → Reads-put w (put-record c) c → replay (put-log c s) ≡ cond (room-for (c .key) (raw s)) (put cell-key c (replay (s .records))) (replay (s .records))
+replay-put : (w : ℕ) (c : Cell) (s : Contents) → Reads-put w (put-record c) c → replay (put-log c s) ≡ cond (room-for (c .key) (raw s)) (put cell-key c (replay (s .records))) (replay (s .records))
 replay-put w c s b =
     let a : replay (appended (s .size) (put-record c) (s .records)) ≡ put cell-key c (replay (s .records)) = replay-appended (s .size) (put-record c) (s .records) ∙ step-put w (put-record c) c (replay (s .records)) b in
     ⊎-elim
@@ -41,7 +41,7 @@ replay-put w c s b =
     (λ t. ap replay (cond-false (room-for (c .key) (raw s)) (appended (s .size) (put-record c) (s .records)) (s .records) t) ∙ sym (cond-false (room-for (c .key) (raw s)) (put cell-key c (replay (s .records))) (replay (s .records)) t))
     (cases-bool (room-for (c .key) (raw s)))
 
-pub replay-remove : (w k : ℕ) (s : Contents) → Reads-remove w (remove-record k) k → replay (remove-log k s) ≡ without cell-key k (replay (s .records))
+replay-remove : (w k : ℕ) (s : Contents) → Reads-remove w (remove-record k) k → replay (remove-log k s) ≡ without cell-key k (replay (s .records))
 replay-remove w k s b =
     let m = replay (s .records) in
     ⊎-elim

@@ -1,12 +1,11 @@
 -- Bytes laid over others.
-use mathlib.Core.Path.{_≡_, refl, sym, ap, subst, _∙_}
+use mathlib.Core.Path.{_≡_, sym, ap, _∙_}
 use mathlib.Core.List.{List, [], _∷_, _++_}
-use Prim.Native.Nat.{ℕ, zero, suc, _+_, _-_, _≤_, _<_, min}
+use Prim.Native.Nat.{ℕ, suc, _+_, _-_, _≤_, _<_}
 use native.Mathlib.Omega.{arith}
-use native.Mathlib.Numerals.{add-one}
 use lib.ListN.{length, take, drop, getD, set, replicate}
-use borrow.Rule.Slice.PartMut.{putMid, postOf}
-use Rattle.std.proofs.shelf.Lists.{length-take-le, length-append, length-drop, take-append-drop, take-at, drop-at, drop-drop, append-assoc, set-split, drop-append-le, getD-drop, take-more, take-take, length-take, take-append-le, drop-all, append-nil, length-replicate}
+use borrow.Rule.Slice.PartMut.{putMid}
+use Rattle.std.proofs.shelf.Lists.{length-take-le, length-append, length-drop, take-append-drop, take-at, drop-at, drop-drop, append-assoc, set-split, getD-drop, take-more, take-take, length-take, take-append-le, drop-all, append-nil}
 use Rattle.journal.specs.Walk.{overlay}
 
 pub overlay-none : {A : Type 0} (at : ℕ) (bs : List A) → overlay at [] bs ≡ bs
@@ -27,7 +26,7 @@ module _ {A : Type 0} (at : ℕ) (ys bs : List A) (fits : at + length ys ≤ len
   pub take-overlay : take (at + length ys) (overlay at ys bs) ≡ take at bs ++ ys
   take-overlay = ap (take (at + length ys)) overlay-is ∙ take-at (take at bs ++ ys) (drop (at + length ys) bs) (at + length ys) front
 
-  pub take-overlay-below : (n : ℕ) → n ≤ at → take n (overlay at ys bs) ≡ take n bs
+  take-overlay-below : (n : ℕ) → n ≤ at → take n (overlay at ys bs) ≡ take n bs
   take-overlay-below n le =
       sym (take-take n (at + length ys) (overlay at ys bs) (omega arith)) ∙ (ap (take n) take-overlay ∙
       (let b = length-take-le at bs (omega arith) in sym (take-take n at (take at bs ++ ys) le) ∙ (ap (take n) (take-at (take at bs) ys at b) ∙ take-take n at bs le)))
@@ -92,11 +91,6 @@ moved old es from to n i le fits lt is =
     let b = getD old (from + i) 0 in
     let t : take (i + 1) (drop from old) ≡ take i (drop from old) ++ getD old (from + i) 0 ∷ [] = take-more (drop from old) i 0 (omega arith) ∙ ap (λ x. take i (drop from old) ++ x ∷ []) (getD-drop from old i 0) in
     ap (λ ys. set ys (to + i) (getD ys (from + i) 0)) is ∙ (ap (set L (to + i)) g ∙ (overlay-set (to + i) L b (omega arith) ∙ (overlay-overlay to xs old f (b ∷ []) (to + i) (omega arith) (omega arith) ∙ ap (λ ys. overlay to ys old) (sym t))))
-
-pub two-overlays : (at k m n : ℕ) (bs ys zs ys′ zs′ : List ℕ) → ys ≡ ys′ → zs ≡ zs′ → k ≡ length ys′ → m ≡ at + length ys′ → n ≡ length zs′ → at + length ys′ + length zs′ ≤ length bs → putMid m n (putMid at k bs ys) zs ≡ overlay at (ys′ ++ zs′) bs
-two-overlays at k m n bs ys zs ys′ zs′ p q kl ml nl fits =
-    ap (λ xs. putMid m n (putMid at k bs xs) zs) p ∙ (ap (λ xs. putMid m n (putMid at k bs ys′) xs) q ∙
-    (ap (λ xs. putMid m n xs zs′) (overlay-putMid at k bs ys′ kl) ∙ (overlay-putMid m n (overlay at ys′ bs) zs′ nl ∙ overlay-overlay at ys′ bs (omega arith) zs′ m ml (omega arith))))
 
 pub zeroes : (bs new fill P : List ℕ) (used to : ℕ) → used ≤ length bs → length new ≡ used → take to new ≡ P → to ≤ used →
     fill ≡ replicate (length (take (length (new ++ drop (used - 0) bs) - to) (drop to (new ++ drop (used - 0) bs)))) 0 →

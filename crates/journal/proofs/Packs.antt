@@ -1,11 +1,11 @@
 -- One live record more was moved to the front.
-use mathlib.Core.Path.{_≡_, refl, sym, ap, subst, _∙_}
-use mathlib.Core.List.{List, [], _∷_, _++_}
-use mathlib.Core.Bool.{Bool, true, false, cond}
-use Prim.Native.Nat.{ℕ, zero, suc, _+_, _-_, _≤_, _<_, min}
+use mathlib.Core.Path.{_≡_, sym, ap, _∙_}
+use mathlib.Core.List.{List, _∷_, _++_}
+use mathlib.Core.Bool.{true, false}
+use Prim.Native.Nat.{ℕ, _+_, _-_, _≤_}
 use native.Mathlib.Omega.{arith}
 use lib.ListN.{length, take, drop}
-use Rattle.std.proofs.shelf.Lists.{length-append, length-take, length-drop, append-assoc, append-nil}
+use Rattle.std.proofs.shelf.Lists.{length-take, length-drop, append-assoc, append-nil}
 use Rattle.journal.specs.Record.{record-key, is-put}
 use Rattle.journal.specs.Log.{log, sound, joined, live, mentions}
 use Rattle.journal.specs.Walk.{Step, overlay}

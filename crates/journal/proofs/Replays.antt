@@ -1,9 +1,9 @@
 -- What the records of a log leave, and that packing keeps it.
 use mathlib.Core.Path.{_≡_, refl, sym, ap, subst, _∙_}
 use mathlib.Core.List.{List, [], _∷_, _++_}
-use mathlib.Core.Bool.{Bool, true, false, cond}
-use mathlib.Core.Logic.{_⊎_, inl, inr, ⊎-elim}
-use Prim.Native.Nat.{ℕ, zero, suc, _+_, _*_, _≤_, _<_}
+use mathlib.Core.Bool.{true, false, cond}
+use mathlib.Core.Logic.{⊎-elim}
+use Prim.Native.Nat.{ℕ, suc, _+_, _*_, _≤_}
 use native.Mathlib.Omega.{arith}
 use native.Mathlib.Nat.{suc-mul}
 use lib.Dec.{eqb}
@@ -27,7 +27,7 @@ find-step k r m =
     (λ p. rw p (find-without k (record-key r) m))
     (cases-bool (is-put r))
 
-pub find-replay-on : (k : ℕ) (m : List Cell) (rs : List (List ℕ)) → find cell-key k (replay-on m rs) ≡ look-on (find cell-key k m) k rs
+find-replay-on : (k : ℕ) (m : List Cell) (rs : List (List ℕ)) → find cell-key k (replay-on m rs) ≡ look-on (find cell-key k m) k rs
 find-replay-on k m [] = refl
 find-replay-on k m (r ∷ rs) = find-replay-on k (step r m) rs ∙ ap (λ o. look-on o k rs) (find-step k r m)
 
@@ -92,7 +92,7 @@ look-gone o k r rs s p = ap (λ x. look-on x k rs) (cond-true (eqb (record-key r
 look-past : (o : Option Cell) (k : ℕ) (r : List ℕ) (rs : List (List ℕ)) → eqb (record-key r) k ≡ false → look-on o k (r ∷ rs) ≡ look-on o k rs
 look-past o k r rs s = ap (λ x. look-on x k rs) (cond-false (eqb (record-key r) k) (seen r) o s)
 
-pub look-live : (k : ℕ) (rs : List (List ℕ)) → look-on None k (live rs) ≡ look-on None k rs
+look-live : (k : ℕ) (rs : List (List ℕ)) → look-on None k (live rs) ≡ look-on None k rs
 look-live k [] = refl
 look-live k (r ∷ rs) =
     ⊎-elim

@@ -1,7 +1,7 @@
 -- Six bytes of a key or a version, written and read.
 use mathlib.Core.Path.{_≡_, refl, sym, ap, _∙_}
 use mathlib.Core.List.{List, [], _∷_, _++_}
-use Prim.Native.Nat.{ℕ, zero, suc, _+_, _*_, _/_, _%_, _^_, _≤_, _<_}
+use Prim.Native.Nat.{ℕ, _+_, _*_, _/_, _%_, _^_, _≤_, _<_}
 use native.Mathlib.Omega.{arith}
 use lib.ListN.{length, take, drop, getD}
 use Rattle.std.proofs.shelf.Lists.{drop-more}
@@ -31,10 +31,6 @@ rank-at-is i bs le =
     let u = ap unlittle n in
     let v = ap unlittle s in
     omega arith
-
-pub length-six : (k : ℕ) → length (six-bytes k) ≡ 6
-unfolding six-bytes
-length-six k = refl
 
 -- a rank that is written and then read is that rank
 pub rank-back : (k : ℕ) (rest : List ℕ) → k < 2 ^ 48 → unlittle (take 4 (six-bytes k ++ rest)) * 65536 + unlittle (take 2 (drop 4 (six-bytes k ++ rest))) ≡ k

@@ -11,7 +11,7 @@ use Rattle.journal.specs.Forms.{form, size}
 use Rattle.journal.specs.Record.{bit-map, whole}
 
 -- the summed length in the table is that of the fields that stand
-pub lengths : (b : ℕ) → form b .length ≡ cond (form b .key) 6 0 + cond (form b .version) 6 0
+lengths : (b : ℕ) → form b .length ≡ cond (form b .key) 6 0 + cond (form b .version) 6 0
 unfolding form
 lengths zero = refl
 lengths (suc zero) = refl

@@ -1,4 +1,3 @@
-ghost use mathlib.Core.Path.{_≡_};
 ghost use lib.ListN.{length};
 ghost use Rattle.values.specs.Rank.{rank};
 ghost use Rattle.stores.specs.Provider.{cell};

@@ -1,11 +1,14 @@
 ghost use mathlib.Core.Path.{_≡_};
+ghost use mathlib.Core.Bool.{true};
 ghost use mathlib.Core.List.{List};
 ghost use Prim.Native.Nat.{ℕ, _≤_};
 ghost use lib.ListN.{length};
 ghost use Rattle.values.specs.Rank.{rank};
 ghost use Rattle.values.specs.Refusals.{numbered};
-ghost use Rattle.stores.specs.Provider.{cell};
+ghost use Rattle.stores.specs.Keyed.{ascending};
+ghost use Rattle.stores.specs.Provider.{cell, keys};
 ghost use Rattle.stores.specs.Operations.{put-answer, put-after, remove-after};
+ghost use Rattle.journal.specs.Log.{sound};
 ghost use Rattle.journal.specs.Contents.{room-in, Largest, empty, put-contents, remove-contents, pack-contents};
 ghost use Rattle.journal.specs.Normal.{provider-of};
 ghost use Rattle.journal.specs.Held.{contents-of, Holds};
@@ -71,7 +74,14 @@ impl<'a> Journal<'a> {
 pub impl<'a, V: Canonical> Store<V> for Journal<'a> as JournalStore {
     ghost provider = { λ s. provider-of (V·Kind .wide) (V·Canonical .normal) (contents-of s) };
 
-    fn lawful(&self) {}
+    // Of a journal it also says that its bytes are its records and zeros after them, and that every record is whole.
+    fn lawful(&self)
+        ensures few { λ _. ⌜ length (provider-of (V·Kind .wide) (V·Canonical .normal) (contents-of (now (self .entry))) .cells) ≤ provider-of (V·Kind .wide) (V·Canonical .normal) (contents-of (now (self .entry))) .capacity ⌝ }
+        ensures sorted { λ _. ⌜ ascending (keys (provider-of (V·Kind .wide) (V·Canonical .normal) (contents-of (now (self .entry))))) ≡ true ⌝ }
+        ensures log { λ _. ⌜ Holds (now (self .entry)) (contents-of (now (self .entry))) ⌝ }
+        ensures sounds { λ _. ⌜ sound (now (self .entry) .width) (contents-of (now (self .entry)) .records) ≡ true ⌝ }
+    {
+    }
 
     fn capacity(&self) -> usize {
         if self.width == V::size() {

@@ -10,7 +10,7 @@ ghost use Rattle.stores.specs.Keyed.{find as found-under};
 ghost use Rattle.stores.specs.Provider.{cell-key};
 ghost use Rattle.journal.specs.Log.{log, sound, mentions, replay};
 ghost use Rattle.journal.specs.Record.{rank-at, record-key, record-version, is-put, whole};
-ghost use Rattle.journal.specs.Walk.{Step, look-on, found-in, seen, Found-fits};
+ghost use Rattle.journal.specs.Walk.{Step, found-in, seen, Found-fits};
 use crate::forms::form_of;
 use crate::forms::size_of;
 use crate::found::Found;

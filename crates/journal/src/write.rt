@@ -4,7 +4,7 @@ ghost use Prim.Native.Nat.{_+_, _≤_};
 ghost use lib.ListN.{length};
 ghost use Rattle.values.specs.Rank.{rank};
 ghost use Rattle.stores.specs.Provider.{cell};
-ghost use Rattle.journal.specs.Record.{six-bytes, field as as-field, encoded, put-map, remove-map};
+ghost use Rattle.journal.specs.Record.{six-bytes, field as as-field, encoded};
 ghost use Rattle.journal.specs.Walk.{overlay};
 use crate::forms::form_of;
 use values::version::Key;

@@ -1,4 +1,4 @@
-use mathlib.Core.Path.{_≡_, sym, ap, subst, _∙_}
+use mathlib.Core.Path.{sym, ap, subst, _∙_}
 use mathlib.Core.Bool.{true, false}
 use mathlib.Core.Logic.{⊎-elim}
 use Prim.Native.Nat.{_≤_, _<_}
@@ -7,7 +7,7 @@ use lib.ListN.{take}
 use Rattle.std.proofs.shelf.Tests.{both-ways}
 use Rattle.values.specs.Rank.{rank}
 use Rattle.stores.specs.Provider.{cell}
-use Rattle.journal.specs.Record.{encoded, whole, put-record}
+use Rattle.journal.specs.Record.{encoded, whole}
 use Rattle.journal.specs.Codec.{Reads-put}
 use Rattle.journal.specs.Log.{log, replay}
 use Rattle.journal.proofs.Maps.{some-long}

@@ -1,9 +1,7 @@
-use mathlib.Core.Path.{_≡_, refl, sym, ap, _∙_}
-use mathlib.Core.Bool.{Bool, true, false, cond}
-use Prim.Native.Nat.{ℕ, _+_}
+use mathlib.Core.Path.{sym, ap, _∙_}
 use native.Mathlib.Omega.{arith}
 use Rattle.std.proofs.shelf.Tests.{cond-true, cond-false}
-use Rattle.journal.specs.Forms.{form, size}
+use Rattle.journal.specs.Forms.{form}
 use Rattle.journal.specs.declared.form.Form.{Form}
 use Rattle.journal.proofs.Sizes.{short-fields, size-is}
 use Rattle.journal.proofs.forms.size_of.Needs as need

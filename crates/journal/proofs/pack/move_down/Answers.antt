@@ -1,4 +1,4 @@
-use mathlib.Core.Path.{_≡_, refl, sym, ap, subst, _∙_}
+use mathlib.Core.Path.{sym}
 use native.Mathlib.Omega.{arith}
 use Rattle.journal.proofs.Overlays.{overlay-none, moved}
 use Rattle.journal.proofs.pack.move_down.Needs as need

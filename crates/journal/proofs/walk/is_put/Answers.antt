@@ -1,4 +1,4 @@
-use mathlib.Core.Path.{_≡_, ap}
+use mathlib.Core.Path.{ap}
 use Rattle.journal.specs.Record.{is-put}
 use Rattle.journal.specs.declared.form.Form.{Form}
 use Rattle.journal.proofs.Sizes.{whole-some}

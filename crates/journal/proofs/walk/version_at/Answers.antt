@@ -1,4 +1,3 @@
-use mathlib.Core.Path.{_≡_, refl, sym, ap, _∙_}
 use native.Mathlib.Omega.{arith}
 use Rattle.journal.proofs.Sixes.{rank-at-is}
 use Rattle.journal.proofs.walk.version_at.Needs as need

@@ -1,4 +1,4 @@
-use mathlib.Core.Path.{_≡_, refl, sym}
+use mathlib.Core.Path.{refl, sym}
 use native.Mathlib.Omega.{arith}
 use Rattle.journal.proofs.Overlays.{overlay-none}
 use Rattle.journal.proofs.Writes.{field-written}

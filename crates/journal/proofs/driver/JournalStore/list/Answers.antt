@@ -1,5 +1,4 @@
 use mathlib.Core.Path.{_∙_}
-use native.Mathlib.Omega.{arith}
 use Rattle.journal.proofs.Holdings.{list-refused, list-done}
 use Rattle.journal.proofs.driver.JournalStore.list.Needs as need
 

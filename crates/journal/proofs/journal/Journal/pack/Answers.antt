@@ -1,10 +1,7 @@
-use mathlib.Core.Path.{_≡_, sym, ap, _∙_}
-use mathlib.Core.List.{List}
-use Prim.Native.Nat.{ℕ}
+use mathlib.Core.Path.{sym, ap, _∙_}
 use native.Mathlib.Omega.{arith}
 use lib.ListN.{length, take}
-use Rattle.journal.specs.Log.{log, sound, live, replay}
-use Rattle.journal.specs.Contents.{Contents, pack-contents}
+use Rattle.journal.specs.Log.{log, sound, replay}
 use Rattle.journal.specs.Normal.{provider-of}
 use Rattle.journal.specs.Held.{contents-of}
 use Rattle.journal.proofs.Replays.{replay-live}

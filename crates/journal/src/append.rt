@@ -51,7 +51,7 @@ fn append(
 fn map_of_put(key: Key, version: Version) -> u8
     ensures { λ r. ⌜ r ≡ put-map (eqb (rank key) 0) (eqb (rank version) (rank key)) ⌝ }
 {
-    match (key.same(Version { number: 0, seat: 0 }), version.same(key)) {
+    match (key.same(Version::STANDING), version.same(key)) {
         (true, true) => 4,
         (false, true) => 5,
         (true, false) => 6,
@@ -63,11 +63,7 @@ fn map_of_put(key: Key, version: Version) -> u8
 fn map_of_remove(key: Key) -> u8
     ensures { λ r. ⌜ r ≡ remove-map (eqb (rank key) 0) ⌝ }
 {
-    if key.same(Version { number: 0, seat: 0 }) {
-        0
-    } else {
-        1
-    }
+    if key.same(Version::STANDING) { 0 } else { 1 }
 }
 
 // Puts a version and a value, by its bytes, under a key.

@@ -80,8 +80,7 @@ pub impl<'a, V: Canonical> Store<V> for Journal<'a> as JournalStore {
         ensures sorted { λ _. ⌜ ascending (keys (provider-of (V·Kind .wide) (V·Canonical .normal) (contents-of (now (self .entry))))) ≡ true ⌝ }
         ensures log { λ _. ⌜ Holds (now (self .entry)) (contents-of (now (self .entry))) ⌝ }
         ensures sounds { λ _. ⌜ sound (now (self .entry) .width) (contents-of (now (self .entry)) .records) ≡ true ⌝ }
-    {
-    }
+    {}
 
     fn capacity(&self) -> usize {
         if self.width == V::size() {

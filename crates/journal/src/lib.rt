@@ -13,6 +13,6 @@ mod keys;
 mod pack;
 mod region;
 mod regions;
-pub mod usage;
+mod usage;
 mod walk;
 mod write;

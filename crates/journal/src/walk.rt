@@ -34,7 +34,7 @@ pub(crate) fn key_in(rec: &[u8], w: usize) -> Key
     if form_of(rec[0]).key {
         version_at(rec, 1)
     } else {
-        Version { number: 0, seat: 0 }
+        Version::STANDING
     }
 }
 

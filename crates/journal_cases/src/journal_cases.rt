@@ -68,8 +68,10 @@ fn six_records(bytes: &mut [u8]) -> Result<usize, Refusal> {
 fn records_of_all_six_maps(rt: LibcRuntime) -> Result<(), Fail> {
     let put_standing = b"\x04\x07\x03\x00\x0a\x00\x00\x00\x14\x00\x00\x00";
     let put_own = b"\x05\x03\x00\x00\x00\x01\x00\x07\x03\x00\x0a\x00\x00\x00\x14\x00\x00\x00";
-    let put_standing_version = b"\x06\x03\x00\x00\x00\x01\x00\x07\x03\x00\x0a\x00\x00\x00\x14\x00\x00\x00";
-    let put_both = b"\x07\x03\x00\x00\x00\x01\x00\x04\x01\x00\x00\x02\x00\x07\x03\x00\x0a\x00\x00\x00\x14\x00\x00\x00";
+    let put_standing_version =
+        b"\x06\x03\x00\x00\x00\x01\x00\x07\x03\x00\x0a\x00\x00\x00\x14\x00\x00\x00";
+    let put_both =
+        b"\x07\x03\x00\x00\x00\x01\x00\x04\x01\x00\x00\x02\x00\x07\x03\x00\x0a\x00\x00\x00\x14\x00\x00\x00";
     let remove_standing = b"\x00";
     let remove = b"\x01\x03\x00\x00\x00\x01\x00";
     let mut records = Vec::new(rt.alloc());
@@ -113,7 +115,10 @@ fn alternate(bytes: &mut [u8], secret: Secret, turns: u32) -> Option<u32> {
 #[test]
 fn a_long_alternation_in_the_smallest_journal(rt: LibcRuntime) -> Result<(), Fail> {
     let secret = Secret::new(b"open sesame")?;
-    check_eq(alternate(&mut vec![in rt.alloc(); 0; 124]?, secret, 400), Some(399))
+    check_eq(
+        alternate(&mut vec![in rt.alloc(); 0; 124]?, secret, 400),
+        Some(399),
+    )
 }
 
 // Beside a key that stays, puts and removes another. Answers whether the first was always there.
@@ -174,7 +179,10 @@ fn with_another_width(bytes: &mut [u8], hold: Hold, secret: Secret) -> Result<us
 fn values_of_another_width_find_no_room(rt: LibcRuntime) -> Result<(), Fail> {
     let hold = Hold::new(1, 2, 3)?;
     let secret = Secret::new(b"wide")?;
-    check_eq(with_another_width(&mut vec![in rt.alloc(); 0; 480]?, hold, secret)?, 18)
+    check_eq(
+        with_another_width(&mut vec![in rt.alloc(); 0; 480]?, hold, secret)?,
+        18,
+    )
 }
 
 fn packed(bytes: &mut [u8], hold: Hold) -> Result<(usize, usize), Refusal> {

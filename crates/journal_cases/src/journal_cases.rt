@@ -2,6 +2,8 @@ use journal::canonical::HoldCanonical;
 use journal::canonical::SecretCanonical;
 use journal::driver::JournalStore;
 use journal::journal::Journal;
+use std::alloc::AllocError;
+use std::alloc::Global;
 use std::test::*;
 use stores::store::Store;
 use stores::stored::Stored;
@@ -20,33 +22,21 @@ fn version(number: u32, seat: u16) -> Version {
     Version { number, seat }
 }
 
-fn capacity_for_secrets(bytes: &mut [u8]) -> usize {
-    let journal = Journal::new::<Secret>(bytes);
-    Store::<Secret>::capacity(&journal)
+// The capacity of a journal for secrets in `n` bytes.
+fn capacity_in(heap: Global, n: usize) -> Result<usize, AllocError> {
+    let mut bytes = vec![in heap; 1; n]?;
+    let journal = Journal::new::<Secret>(&mut bytes);
+    Ok(Store::<Secret>::capacity(&journal))
 }
 
 #[test]
 fn capacities_for_secrets(rt: LibcRuntime) -> Result<(), Fail> {
-    let heap = rt.alloc();
-    check_eq(capacity_for_secrets(&mut vec![in heap; 1; 248]?), 3)?;
-    check_eq(capacity_for_secrets(&mut vec![in heap; 1; 247]?), 2)?;
-    check_eq(capacity_for_secrets(&mut vec![in heap; 1; 124]?), 1)?;
-    check_eq(capacity_for_secrets(&mut vec![in heap; 1; 123]?), 0)?;
-    check_eq(capacity_for_secrets(&mut vec![in heap; 1; 0]?), 0)?;
-    check_eq(capacity_for_secrets(&mut vec![in heap; 1; 2045]?), 31)?;
-    check_eq(capacity_for_secrets(&mut vec![in heap; 1; 2046]?), 32)?;
-    check_eq(capacity_for_secrets(&mut vec![in heap; 1; 4000]?), 32)
-}
-
-// Whether the bytes are these records and zeros after them.
-fn are(bytes: &[u8], records: &[u8]) -> bool {
-    for (i, b) in bytes.iter().enumerate() {
-        let expected = if i < records.len() { records[i] } else { 0 };
-        if *b != expected {
-            return false;
-        }
-    }
-    true
+    check_eq(capacity_in(rt.alloc(), 248)?, 3)?;
+    check_eq(capacity_in(rt.alloc(), 247)?, 2)?;
+    check_eq(capacity_in(rt.alloc(), 124)?, 1)?;
+    check_eq(capacity_in(rt.alloc(), 123)?, 0)?;
+    check_eq(capacity_in(rt.alloc(), 2045)?, 31)?;
+    check_eq(capacity_in(rt.alloc(), 4000)?, 32)
 }
 
 // One record of each bit map. Answers the used length.
@@ -63,27 +53,33 @@ fn six_records(bytes: &mut [u8]) -> Result<usize, Refusal> {
     Ok(journal.used())
 }
 
+// Whether the bytes from `at` on begin with these.
+fn stand_at(bytes: &[u8], at: usize, record: &[u8]) -> bool {
+    for (i, b) in bytes.iter().skip(at).enumerate() {
+        if i < record.len() && *b != record[i] {
+            return false;
+        }
+    }
+    true
+}
+
 // The hold by seat 3 from minute 10 to 20 is 07 03 00 0A 00 00 00 14 00 00 00.
 #[test]
 fn records_of_all_six_maps(rt: LibcRuntime) -> Result<(), Fail> {
-    let put_standing = b"\x04\x07\x03\x00\x0a\x00\x00\x00\x14\x00\x00\x00";
-    let put_own = b"\x05\x03\x00\x00\x00\x01\x00\x07\x03\x00\x0a\x00\x00\x00\x14\x00\x00\x00";
-    let put_standing_version =
-        b"\x06\x03\x00\x00\x00\x01\x00\x07\x03\x00\x0a\x00\x00\x00\x14\x00\x00\x00";
-    let put_both =
-        b"\x07\x03\x00\x00\x00\x01\x00\x04\x01\x00\x00\x02\x00\x07\x03\x00\x0a\x00\x00\x00\x14\x00\x00\x00";
-    let remove_standing = b"\x00";
-    let remove = b"\x01\x03\x00\x00\x00\x01\x00";
-    let mut records = Vec::new(rt.alloc());
-    records.extend_from_slice(put_standing)?;
-    records.extend_from_slice(put_own)?;
-    records.extend_from_slice(put_standing_version)?;
-    records.extend_from_slice(put_both)?;
-    records.extend_from_slice(remove_standing)?;
-    records.extend_from_slice(remove)?;
     let mut bytes = vec![in rt.alloc(); 9; 96]?;
     check_eq(six_records(&mut bytes)?, 80)?;
-    check(are(&bytes, &records))
+    let put_4 = b"\x04\x07\x03\x00\x0a\x00\x00\x00\x14\x00\x00\x00";
+    let put_5 = b"\x05\x03\x00\x00\x00\x01\x00\x07\x03\x00\x0a\x00\x00\x00\x14\x00\x00\x00";
+    let put_6 = b"\x06\x03\x00\x00\x00\x01\x00\x07\x03\x00\x0a\x00\x00\x00\x14\x00\x00\x00";
+    let put_7 =
+        b"\x07\x03\x00\x00\x00\x01\x00\x04\x01\x00\x00\x02\x00\x07\x03\x00\x0a\x00\x00\x00\x14\x00\x00\x00";
+    let removes = b"\x00\x01\x03\x00\x00\x00\x01\x00";
+    check(stand_at(&bytes, 0, put_4))?;
+    check(stand_at(&bytes, 12, put_5))?;
+    check(stand_at(&bytes, 30, put_6))?;
+    check(stand_at(&bytes, 48, put_7))?;
+    check(stand_at(&bytes, 72, removes))?;
+    check(stand_at(&bytes, 80, &[0; 16]))
 }
 
 // Puts a new key, reads it and takes it out again, over and over. Answers how often the log was packed, or none if a key

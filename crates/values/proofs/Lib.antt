@@ -1,4 +1,4 @@
-pub mod Padding
+mod Padding
 pub mod Coding
 pub mod LittleEndian
 pub mod HoldCoding

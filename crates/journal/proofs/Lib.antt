@@ -1,0 +1,15 @@
+mod Sizes
+mod Cuts
+mod Overlays
+mod Maps
+mod Replays
+mod Finds
+mod Sixes
+mod Writes
+mod Packs
+mod Appends
+mod Records
+mod Changes
+mod Normals
+mod Listings
+mod Holdings

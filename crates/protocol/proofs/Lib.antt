@@ -1,0 +1,12 @@
+pub mod Lists
+pub mod Model
+pub mod ModelSteps
+pub mod Tags
+pub mod Cells
+pub mod Providers
+pub mod ModelLines
+pub mod Counting
+pub mod Invariant
+pub mod Trace
+pub mod Ordering
+pub mod Register

@@ -10,3 +10,6 @@ pub mod Invariant
 pub mod Trace
 pub mod Ordering
 pub mod Register
+pub mod View
+pub mod Arrangements
+pub mod Decoding

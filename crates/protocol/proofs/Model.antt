@@ -158,10 +158,15 @@ abbrev pub list-done : Option ℕ → Bool
 list-done None = false
 list-done (Some k) = true
 
+-- a listing line keeps the largest key of its first list
+abbrev pub listed-once : Option ℕ → ℕ → Option ℕ
+listed-once None k = Some k
+listed-once (Some t) k = Some t
+
 -- the answer is in: the line at i goes on
 abbrev pub next : ModelSeat → ℕ → List Cell → ModelSeat
 next idle i m = idle
 next stopped i m = stopped
-next (listing x p) i m = listing x (update p i (Some (top m)))
+next (listing x p) i m = listing x (update p i (listed-once (p i) (top m)))
 next (gathering b p) i m = gathering b (update p i (next-gather m (p i)))
 next (storing b v x p) i m = storing b v x (update p i (next-store v m (p i)))

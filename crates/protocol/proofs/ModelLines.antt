@@ -19,7 +19,7 @@ use Rattle.protocol.specs.Requests.{Request, list-keys, get-key, put-cell, rem
 use Rattle.protocol.specs.History.{update}
 use Rattle.protocol.proofs.Model.{Code, cell-of, top, lesser, Tag, untag, put-tag, carry, retag}
 use Rattle.protocol.proofs.Model.{StoreProgress, to-list, to-remove, to-put-standing, to-put-own, to-remove-largest, stored, GatherProgress, to-list-again, to-get-largest, to-get-standing, found-none, found, ModelSeat, idle, stopped, listing, gathering, storing, Transit, free, sent, returned}
-use Rattle.protocol.proofs.Model.{to-remove-all, ask-store, next-store, ask-gather, listed-gather, got-largest, got-standing, next-gather, ask, next, list-done}
+use Rattle.protocol.proofs.Model.{to-remove-all, ask-store, next-store, ask-gather, listed-gather, got-largest, got-standing, next-gather, ask, next, list-done, listed-once}
 use Rattle.protocol.proofs.ModelSteps.{stale, Active}
 use Rattle.protocol.proofs.Lists.{In}
 use Rattle.protocol.proofs.Tags.{Others, Tail, Own, own-removed, own-tail, untag-pairs}
@@ -171,18 +171,26 @@ module _ (g : ℕ → Option Code) (s : ℕ) where
     gather-land f found-none l h = h
     gather-land f (found v x) l h = h
 
+    once-ok : (f : ℕ) (o : Option ℕ) → f ≤ top m → ListOk f o → ListOk f (listed-once o (top m))
+    once-ok f None l h = l
+    once-ok f (Some k) l h = h
+
+    once-done : (o : Option ℕ) → list-done (listed-once o (top m)) ≡ true
+    once-done None = refl
+    once-done (Some k) = refl
+
     -- the line's own answer
     pub prog-land : (f i : ℕ) (r : Request) (q : ModelSeat) → f ≤ top m → RequestOk g s (top m) E r → Asked i r q → ProgOk (top m) E f i q → ProgOk (top (carry r m)) (retag s r E) f i (next q i m)
     prog-land f i r idle l o a h = tt
     prog-land f i r stopped l o a h = tt
-    prog-land f i r (listing x p) l o a h = rw (update-same p i (Some (top m))) l
+    prog-land f i r (listing x p) l o a h = rw (update-same p i (listed-once (p i) (top m))) (once-ok f (p i) l h)
     prog-land f i r (gathering b p) l o a h = rw (update-same p i (next-gather m (p i))) (gather-land f (p i) l h)
     prog-land f i r (storing b v x p) l o a h = rw (update-same p i (next-store v m (p i)), a) (store-land v x (p i) (rw a at o) h)
 
     pub prog-else : (t : ℕ) (F : List Tag) (f i j : ℕ) (q : ModelSeat) → i ≢ j → ProgOk t F f j q → ProgOk t F f j (next q i m)
     prog-else t F f i j idle d h = tt
     prog-else t F f i j stopped d h = tt
-    prog-else t F f i j (listing x p) d h = rw (update-other p i j (Some (top m)) d) h
+    prog-else t F f i j (listing x p) d h = rw (update-other p i j (listed-once (p i) (top m)) d) h
     prog-else t F f i j (gathering b p) d h = rw (update-other p i j (next-gather m (p i)) d) h
     prog-else t F f i j (storing b v x p) d h = rw (update-other p i j (next-store v m (p i)) d) h
 
@@ -196,21 +204,21 @@ module _ (g : ℕ → Option Code) (s : ℕ) where
     pub blank-else : (i j : ℕ) (q : ModelSeat) → i ≢ j → Blank j q → Blank j (next q i m)
     blank-else i j idle d h = h
     blank-else i j stopped d h = h
-    blank-else i j (listing x p) d h = rw (update-other p i j (Some (top m)) d) h
+    blank-else i j (listing x p) d h = rw (update-other p i j (listed-once (p i) (top m)) d) h
     blank-else i j (gathering b p) d h = rw (update-other p i j (next-gather m (p i)) d) h
     blank-else i j (storing b v x p) d h = rw (update-other p i j (next-store v m (p i)) d) h
 
     pub heard-else : (i j : ℕ) (q : ModelSeat) → i ≢ j → Heard j q → Heard j (next q i m)
     heard-else i j idle d h = h
     heard-else i j stopped d h = h
-    heard-else i j (listing x p) d h = rw (update-other p i j (Some (top m)) d) h
+    heard-else i j (listing x p) d h = rw (update-other p i j (listed-once (p i) (top m)) d) h
     heard-else i j (gathering b p) d h = tt
     heard-else i j (storing b v x p) d h = tt
 
     pub heard-here : (i : ℕ) (q : ModelSeat) → Heard i (next q i m)
     heard-here i idle = tt
     heard-here i stopped = tt
-    heard-here i (listing x p) = rw (update-same p i (Some (top m)))
+    heard-here i (listing x p) = rw (update-same p i (listed-once (p i) (top m))) (once-done (p i))
     heard-here i (gathering b p) = tt
     heard-here i (storing b v x p) = tt
 

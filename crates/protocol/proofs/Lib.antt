@@ -13,3 +13,7 @@ pub mod Register
 pub mod View
 pub mod Arrangements
 pub mod Decoding
+pub mod OpenWrites
+pub mod Updates
+pub mod Simulation
+pub mod Calling

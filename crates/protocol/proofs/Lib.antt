@@ -17,3 +17,5 @@ pub mod OpenWrites
 pub mod Updates
 pub mod Simulation
 pub mod Calling
+pub mod Quorums
+pub mod Fetching

@@ -55,7 +55,7 @@ free-when (sent b q) h = absurd (true≢false h)
 free-when (answered b r) h = absurd (true≢false h)
 
 module _ (n seats : ℕ) where
-  doing-line : (V : View) (w : Come n seats V Always) (s i : ℕ) (l : Line) → ((x : Code) → V .activity s ≡ listing x → counts l ≡ counts (V .line s i)) → (o : ℕ) → Always o → DoingOk n (update-two (V .line) s i l o) (V .activity o) (V .version o) (w .doing o) (w .ons o)
+  pub doing-line : (V : View) (w : Come n seats V Always) (s i : ℕ) (l : Line) → ((x : Code) → V .activity s ≡ listing x → counts l ≡ counts (V .line s i)) → (o : ℕ) → Always o → DoingOk n (update-two (V .line) s i l o) (V .activity o) (V .version o) (w .doing o) (w .ons o)
   doing-line V w s i l e o _ = doing-same n (V .line o) (update-two (V .line) s i l o) (V .activity o) (V .version o) (w .doing o) (w .ons o)
       (λ x q j. at-line (λ o j l. V .activity o ≡ listing x → counts l ≡ counts (V .line o j)) (V .line) s i l (e x) (λ o j _. refl) o j q) (w .doings o tt)
 

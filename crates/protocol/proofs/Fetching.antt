@@ -138,7 +138,7 @@ module _ (n seats : ℕ) (V : View) (s : ℕ) (l : s < seats) (w : Come n seats 
   rest-arranged : own-now ≡ [] → Arranged (w .finished ++ opens q (L .since) (w .ons) (update (V .version) s (V .version s)) (update (w .doing) s resting) seats) (L .order)
   rest-arranged h = subst (λ m. Arranged (w .finished ++ m) (L .order)) (rest-kept h) (w .arranged)
 
-  settle-list : (x : Code) → V .activity s ≡ listing x → w .doing s ≡ writing x → done-lines (V .line s) n ≡ suc (w .ons s) → w .ons s < q → Settled (outcome n (suc s) (V .line s) (listing x))
+  pub settle-list : (x : Code) → V .activity s ≡ listing x → w .doing s ≡ writing x → done-lines (V .line s) n ≡ suc (w .ons s) → w .ons s < q → Settled (outcome n (suc s) (V .line s) (listing x))
   settle-list x e dx cnt lt = cond-both (leb q (done-lines (V .line s) n)) _ _ Settled
       (λ t. let qu = quorum n V s st (w .match) (listing x) e (λ p. list-done (list-progress p)) list-is-done (leb-true _ _ t) in
       cond-both (leb 999999 (largest-listed (V .line s) n / 65536)) _ _ Settled
@@ -169,7 +169,7 @@ module _ (n seats : ℕ) (V : View) (s : ℕ) (l : s < seats) (w : Come n seats 
   abbrev read-op : ℕ → Option Code → Operation
   read-op v x = record { write = false; begun = L .since s; ended = L .clock; version = v; value = x }
 
-  settle-gather : (b : Bool) → V .activity s ≡ gathering b → w .doing s ≡ reading b → Settled (outcome n (suc s) (V .line s) (gathering b))
+  pub settle-gather : (b : Bool) → V .activity s ≡ gathering b → w .doing s ≡ reading b → Settled (outcome n (suc s) (V .line s) (gathering b))
   settle-gather b e dx = cond-both (leb q (done-lines (V .line s) n)) _ _ Settled
       (λ t. ended-by b e dx (quorum n V s st (w .match) (gathering b) e (λ p. gather-done (gather-progress p)) gather-is-done (leb-true _ _ t)) (newest-found (V .line s) n) (picked n V s st (w .match) (gathering b) e n)
           (most-eq n V s st (w .match) (gathering b) e (λ p. version-of (gather-progress p)) (λ l. version-in (found-on l)) found-free (λ l h. ap (λ c. version-in (cond (c && l .progress .done) (l .progress .found) None)) h) ∙ sym (newest-most (V .line s) n)))
@@ -196,7 +196,7 @@ module _ (n seats : ℕ) (V : View) (s : ℕ) (l : s < seats) (w : Come n seats 
           (update (w .doing) s resting) (w .ons) (w .finished) (else-update (w .doing) resting) (λ i _. refl) (rest-arranged (own-read false dx _ _ _)) (update-same (w .doing) s resting))
 
   module _ (n0 : 0 < n) (small : seats ≤ 65534) where
-    settle-store : (b : Bool) (v : ℕ) (x : Code) → V .activity s ≡ storing b v x → DoingOk n (V .line s) (storing b v x) (V .version s) (w .doing s) (w .ons s) → Settled (outcome n (suc s) (V .line s) (storing b v x))
+    pub settle-store : (b : Bool) (v : ℕ) (x : Code) → V .activity s ≡ storing b v x → DoingOk n (V .line s) (storing b v x) (V .version s) (w .doing s) (w .ons s) → Settled (outcome n (suc s) (V .line s) (storing b v x))
     settle-store false v x e dx = cond-both (leb q (done-lines (V .line s) n)) _ _ Settled
         (λ t. subst (λ d. Reached n seats (turn V s idle) (read-by s v (Some x) d H)) (sym dx)
         (go-to idle M.idle refl _ _ _ _ _ (S.ends s false v x (λ i. store-progress (now n V s st (w .match) (storing false v x) e i)) l (seat-eq n V s st (w .match) (storing false v x) e) (quorum n V s st (w .match) (storing false v x) e (λ p. store-done (store-progress p)) store-is-done (leb-true _ _ t)))

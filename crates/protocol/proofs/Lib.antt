@@ -19,3 +19,4 @@ pub mod Simulation
 pub mod Calling
 pub mod Quorums
 pub mod Fetching
+pub mod Fetched

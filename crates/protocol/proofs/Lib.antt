@@ -20,3 +20,5 @@ pub mod Calling
 pub mod Quorums
 pub mod Fetching
 pub mod Fetched
+pub mod Sheets
+pub mod Viewing

@@ -172,7 +172,7 @@ module _ (n seats : ℕ) (V : View) (s : ℕ) (l : s < seats) (w : Come n seats 
   pub settle-gather : (b : Bool) → V .activity s ≡ gathering b → w .doing s ≡ reading b → Settled (outcome n (suc s) (V .line s) (gathering b))
   settle-gather b e dx = cond-both (leb q (done-lines (V .line s) n)) _ _ Settled
       (λ t. ended-by b e dx (quorum n V s st (w .match) (gathering b) e (λ p. gather-done (gather-progress p)) gather-is-done (leb-true _ _ t)) (newest-found (V .line s) n) (picked n V s st (w .match) (gathering b) e n)
-          (most-eq n V s st (w .match) (gathering b) e (λ p. version-of (gather-progress p)) (λ l. version-in (found-on l)) found-free (λ l h. ap (λ c. version-in (cond (c && l .progress .done) (l .progress .found) None)) h) ∙ sym (newest-most (V .line s) n)))
+      (most-eq n V s st (w .match) (gathering b) e (λ p. version-of (gather-progress p)) (λ l. version-in (found-on l)) found-free (λ l h. ap (λ c. version-in (cond (c && l .progress .done) (l .progress .found) None)) h) ∙ sym (newest-most (V .line s) n)))
       (λ f. wait (gathering b) e dx (own-read b dx _ _ _ ∙ sym (own-read b dx _ _ _)))
     where
       ended-by : (b : Bool) (e : V .activity s ≡ gathering b) → w .doing s ≡ reading b → q ≤ count (λ i. S.is-free (st .transit s i) && gather-done (gather-progress (now n V s st (w .match) (gathering b) e i))) n → (o : Option Pair) → Picked n V s st (w .match) (gathering b) e o →

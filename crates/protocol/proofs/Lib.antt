@@ -22,3 +22,5 @@ pub mod Fetching
 pub mod Fetched
 pub mod Sheets
 pub mod Viewing
+pub mod Histories
+pub mod Lawfulness

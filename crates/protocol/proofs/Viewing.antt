@@ -82,7 +82,8 @@ module _ (m n : ℕ) where
   getD-update : {X : Type 0} (l : List X) (s : ℕ) (x d : X) → s < length l → (o : ℕ) → getD (set l s x) o d ≡ update (λ o. getD l o d) s x o
   getD-update l s x d a o = elim (cases-eq s o) [
     | inl e ↦ subst (λ o. getD (set l s x) o d ≡ update (λ o. getD l o d) s x o) e (getD-set-same l s x d a ∙ sym (update-same (λ o. getD l o d) s x))
-    | inr e ↦ getD-set-other l s o x d (λ q. e (sym q)) ∙ sym (update-other (λ o. getD l o d) s o x e) ]
+    | inr e ↦ getD-set-other l s o x d (λ q. e (sym q)) ∙ sym (update-other (λ o. getD l o d) s o x e)
+  ]
 
   activity-set : (ss : List Seat) (s : ℕ) (q : Seat) → m ≤ length ss → s < m → (o : ℕ) → activities-of (set ss s q) o ≡ update (activities-of ss) s (activity q) o
   activity-set ss s q long a o = elim (cases-eq s o) [ inl e ↦ subst (λ o. activities-of (set ss s q) o ≡ update (activities-of ss) s (activity q) o) e same | inr d ↦ other d ]
@@ -120,7 +121,8 @@ module _ (m n : ℕ) where
       go false e h = h
       go true e h = elim (cases-eq k j) [
         | inl q ↦ cond-true (eqb k j) _ _ (eq-eqb k j q) ∙ (ap restart-line (sym (line-here ls s k a (omega arith)) ∙ ap (lines-of ls s) q) ∙ sym (cond-true (ltb j (suc k)) _ _ (lt-ltb j (suc k) (omega arith))))
-        | inr d ↦ cond-false (eqb k j) _ _ (ne-eqb k j d) ∙ (h ∙ ap (λ b. cond b new old) (later d)) ]
+        | inr d ↦ cond-false (eqb k j) _ _ (ne-eqb k j d) ∙ (h ∙ ap (λ b. cond b new old) (later d))
+      ]
         where
           later : k ≢ j → ltb j k ≡ ltb j (suc k)
           later d = elim (cases-lt j k) [ inl q ↦ lt-ltb j k q ∙ sym (lt-ltb j (suc k) (omega arith)) | inr q ↦ le-ltb j k q ∙ sym (le-ltb j (suc k) (omega arith)) ]

@@ -24,3 +24,4 @@ pub mod Sheets
 pub mod Viewing
 pub mod Histories
 pub mod Lawfulness
+pub mod Unlawful

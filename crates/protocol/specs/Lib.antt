@@ -8,3 +8,4 @@ pub mod Phases
 pub mod Steps
 pub mod History
 pub mod Law
+pub mod Examples

@@ -1,27 +1,25 @@
 -- Begin, post, land, stop and lose keep a view and its history matched to a run.
-use mathlib.Core.Path.{_≡_, refl, sym, ap, ap₂, subst, subst₂, _∙_}
+use mathlib.Core.Path.{_≡_, refl, sym, ap, ap₂, subst, _∙_}
 use mathlib.Core.Logic.{_≢_, inl, inr}
-use mathlib.Core.Bool.{Bool, true, false, cond, _&&_, _||_, not}
-use mathlib.Core.List.{List, [], _∷_, _++_}
-use Prim.Native.Nat.{ℕ, zero, suc, _+_, _/_, _≤_, _<_}
+use mathlib.Core.Bool.{Bool, true, false, _&&_, _||_, not}
+use mathlib.Core.List.{[], _++_}
+use Prim.Native.Nat.{ℕ, _+_, _≤_, _<_}
 use native.Mathlib.Omega.{arith}
-use lib.Dec.{eqb}
 use lib.ListN.{length}
-use Rattle.std.proofs.shelf.Tests.{cond-both, cases-eq, or-parts, true≢false, cond-true}
+use Rattle.std.proofs.shelf.Tests.{cond-both, cases-eq, or-parts, true≢false}
 use Rattle.stores.specs.Provider.{Provider}
-use Rattle.protocol.specs.Answers.{Answer, ok, refused}
-use Rattle.protocol.specs.History.{History, Operation, Doing, resting, writing, reading, update, begin-noted}
-use Rattle.protocol.specs.Law.{holds-no-room}
+use Rattle.protocol.specs.Answers.{Answer, ok}
+use Rattle.protocol.specs.History.{Doing, resting, writing, reading, update, begin-noted}
 use Rattle.protocol.specs.Lines.{LineState, free, sent, answered, is-free, Progress, Line, restarted, restart-line}
 use Rattle.protocol.specs.Moves.{advance}
 use Rattle.protocol.specs.Phases.{majority, counts}
-use Rattle.protocol.specs.Requests.{Request, reply, served}
+use Rattle.protocol.specs.Requests.{reply, served}
 use Rattle.protocol.specs.Seats.{Activity, idle, stopped, listing, gathering, storing, is-idle, is-stopped}
 use Rattle.protocol.specs.Stages.{foreign, request-of}
 use Rattle.protocol.specs.Steps.{post-line}
 use Rattle.protocol.proofs.Arrangements.{Arranged}
 use Rattle.protocol.proofs.Decoding.{Roomy, serves, same-capacity, reply-roomy}
-use Rattle.protocol.proofs.Invariant.{Invariant, here-prog, at1, at3, at-line}
+use Rattle.protocol.proofs.Invariant.{Invariant, here-progress, at1, at3, at-line}
 use Rattle.protocol.proofs.Model as M
 use Rattle.protocol.proofs.Model.{Code, ModelSeat, carry, top}
 use Rattle.protocol.proofs.ModelLines.{Asked, SeatOk, TransitOk, update-same, update-other}
@@ -30,10 +28,10 @@ use Rattle.protocol.proofs.ModelSteps.{ModelState, Step, update-two}
 use Rattle.protocol.proofs.OpenWrites.{own, opens, opens-same, own-short}
 use Rattle.protocol.proofs.Providers.{few-keys-held, provider-kept}
 use Rattle.protocol.proofs.Register.{Run, goes, both}
-use Rattle.protocol.proofs.Simulation.{transit-of, pend, pending, seen, Match, DoingOk, Come, Always, told, story, Reached, still, seen-cong, same-progress, ask-seen, Working, active, enter-match, turn-roomy, line-roomy, none-counted, doing-same, seat-moves}
-use Rattle.protocol.proofs.Trace.{Trace, trace-step, begun-trace}
+use Rattle.protocol.proofs.Simulation.{transit-of, pend, pending, seen, Match, DoingOk, Come, Always, story, Reached, still, seen-cong, same-progress, ask-seen, Working, active, enter-match, turn-roomy, line-roomy, none-counted, doing-same, seat-moves}
+use Rattle.protocol.proofs.Trace.{trace-step, begun-trace}
 use Rattle.protocol.proofs.Updates.{at5, update-map, update-two-map, update-two-row, update-two-else}
-use Rattle.protocol.proofs.View.{View, with-line, turn, version-kept, begin, post, land-line, land, halted, stop, lose}
+use Rattle.protocol.proofs.View.{View, with-line, turn, version-kept, begin, post, land-line, land, stop, lose}
 
 idle-when : (a : Activity) → not (is-idle a) ≡ false → a ≡ idle
 idle-when idle h = refl
@@ -222,7 +220,7 @@ module _ (n seats : ℕ) where
         line = record { state = answered b (reply q d); progress = V .line s i .progress }
 
         fits : Roomy q d
-        fits = subst (λ c. length (carry q c) ≤ d .capacity) (m .cells i) (omega (arith, w .large i li, few-keys-held (provider-kept (st .given) s (st .provider i .cells) (st .provider i .tags) seats l (inv .providers i) q (here-prog n seats st inv s i q l b transit-eq .0))))
+        fits = subst (λ c. length (carry q c) ≤ d .capacity) (m .cells i) (omega (arith, w .large i li, few-keys-held (provider-kept (st .given) s (st .provider i .cells) (st .provider i .tags) seats l (inv .providers i) q (here-progress n seats st inv s i q l b transit-eq .0))))
 
         here-seat : (b : Bool) → V .line s i .state ≡ sent b q → S.moved b (st .seat s) i (st .provider i .cells) ≡ seen a (λ j. pending a (update-two (V .line) s i (record { state = answered b (reply q d); progress = V .line s i .progress }) s j))
         here-seat true e = same-progress V st m s i _ (sym (ap (pend a (V .line s i .progress)) e)) s

@@ -1,22 +1,23 @@
 -- the provider's map: what put and remove do to its cells, its largest key and its keys
-use mathlib.Core.Path.{_≡_, refl, sym, ap, subst, _∙_}
+use mathlib.Core.Path.{_≡_, refl, ap, _∙_}
 use mathlib.Core.Logic.{_≢_, _⊎_, inl, inr}
-use mathlib.Core.Bool.{Bool, true, false, cond}
 use mathlib.Core.List.{List, [], _∷_, _++_, map}
 use Rattle.std.specs.declared.option.Option.{Option}
 use Rattle.std.specs.declared.option.Option.the-variants.{Some, None}
-use Prim.Native.Nat.{ℕ, zero, suc, _+_, _≤_, _<_, max}
+use mathlib.Core.Bool.{_||_}
+use Prim.Native.Nat.{ℕ, suc, _+_, _≤_, _<_, max}
 use native.Mathlib.Omega.{arith}
 use lib.Dec.{eqb, ltb}
 use lib.ListN.{length}
 use Rattle.std.specs.shelf.Lists.{All}
-use Rattle.std.proofs.shelf.Elements.{all-push, all-weaker}
-use Rattle.std.proofs.shelf.Tests.{cond-both, eqb-true, eqb-false, ltb-true, ltb-false, cases-eq}
+use Rattle.std.proofs.shelf.Elements.{all-weaker}
+use Rattle.std.proofs.shelf.Tests.{cond-both, eqb-true, eqb-false, ltb-true, ltb-false, or-cases, or-parts}
 use Rattle.stores.specs.Keyed.{find, put, without}
 use Rattle.stores.specs.Provider.{Cell, cell-key}
 use Rattle.protocol.specs.Law.{Each-two}
-use Rattle.protocol.proofs.Model.{top, lesser, Tag, untag, put-tag}
-use Rattle.protocol.proofs.Lists.{In, pairs-push, all-in, in-all, fits-in}
+use Rattle.protocol.specs.Moves.{largest-key, keys-but}
+use Rattle.protocol.proofs.Model.{top, Tag, untag}
+use Rattle.protocol.proofs.Lists.{In, fits-in}
 
 -- what holds of each cell
 pub all-insert : (P : Cell → Type 0) (c : Cell) (m : List Cell) → P c → All P m → All P (put cell-key c m)
@@ -74,10 +75,6 @@ top-erase-max k (c ∷ m) =
 pub top-erase : (k : ℕ) (m : List Cell) → k < top m → top (without cell-key k m) ≡ top m
 top-erase k m h = omega (arith, top-erase-max k m)
 
-pub all-below-top : (m : List Cell) → All (λ c. c .key ≤ top m) m
-all-below-top [] = tt
-all-below-top (c ∷ m) = (omega arith, all-weaker (λ d. d .key ≤ top m) (λ d. d .key ≤ max (c .key) (top m)) (λ d h. omega arith) m (all-below-top m))
-
 -- keys
 pub in-insert-new : (c : Cell) (m : List Cell) → In (c .key) (map cell-key (put cell-key c m))
 in-insert-new c [] = inl refl
@@ -100,22 +97,23 @@ erase-gone k [] = tt
 erase-gone k (c ∷ m) = let ih = erase-gone k m in cond-both (eqb (c .key) k) _ _ (All (λ c. c .key ≢ k)) (λ _. ih) (λ d. (eqb-false (c .key) k d, ih))
 
 -- the temporary keys but the largest
-pub lesser-below : (t : ℕ) (m : List Cell) → All (λ c. c .key ≤ t) m → All (λ k. k < t) (lesser t m)
-lesser-below t [] h = tt
-lesser-below t (c ∷ m) h =
-    let ih = lesser-below t m (h .1) in
-    cond-both (eqb (c .key) 0) _ _ (All (λ k. k < t)) (λ _. ih)
-    (λ _. cond-both (eqb (c .key) t) _ _ (All (λ k. k < t)) (λ _. ih) (λ f. let n = eqb-false (c .key) t f in (omega arith, ih)))
+pub all-below : (l : List ℕ) → All (λ k. k ≤ largest-key l) l
+all-below [] = tt
+all-below (k ∷ l) = (omega arith, all-weaker (λ j. j ≤ largest-key l) (λ j. j ≤ max k (largest-key l)) (λ j h. omega arith) l (all-below l))
 
-pub in-lesser : (t : ℕ) (m : List Cell) (x : ℕ) → x ≢ 0 → In x (map cell-key m) → In x (t ∷ lesser t m)
-in-lesser t [] x d h = absurd h
-in-lesser t (c ∷ m) x d (inl e) =
-    cond-both (eqb (c .key) 0) _ _ (λ z. In x (t ∷ z)) (λ a. absurd (d (e ∙ eqb-true (c .key) 0 a)))
-    (λ _. cond-both (eqb (c .key) t) _ _ (λ z. In x (t ∷ z)) (λ a. inl (e ∙ eqb-true (c .key) t a)) (λ _. inr (inl e)))
-in-lesser t (c ∷ m) x d (inr r) =
-    let ih = in-lesser t m x d r in
-    cond-both (eqb (c .key) 0) _ _ (λ z. In x (t ∷ z)) (λ _. ih)
-    (λ _. cond-both (eqb (c .key) t) _ _ (λ z. In x (t ∷ z)) (λ _. ih) (λ _. elim ih [ inl e ↦ inl e | inr q ↦ inr (inr q) ]))
+pub but-below : (t : ℕ) (l : List ℕ) → All (λ k. k ≤ t) l → All (λ k. k < t) (keys-but t l)
+but-below t [] h = tt
+but-below t (k ∷ l) h =
+    let ih = but-below t l (h .1) in
+    cond-both (eqb k 0 || eqb k t) _ _ (All (λ k. k < t)) (λ _. ih) (λ f. let n = eqb-false k t (or-parts (eqb k 0) (eqb k t) f .1) in (omega arith, ih))
+
+pub in-but : (t : ℕ) (l : List ℕ) (x : ℕ) → x ≢ 0 → In x l → In x (t ∷ keys-but t l)
+in-but t [] x d h = absurd h
+in-but t (k ∷ l) x d (inl e) =
+    cond-both (eqb k 0 || eqb k t) _ _ (λ z. In x (t ∷ z)) (λ a. elim (or-cases (eqb k 0) (eqb k t) a) [ inl b ↦ absurd (d (e ∙ eqb-true k 0 b)) | inr b ↦ inl (e ∙ eqb-true k t b) ]) (λ _. inr (inl e))
+in-but t (k ∷ l) x d (inr r) =
+    let ih = in-but t l x d r in
+    cond-both (eqb k 0 || eqb k t) _ _ (λ z. In x (t ∷ z)) (λ _. ih) (λ _. elim ih [ inl e ↦ inl e | inr q ↦ inr (inr q) ])
 
 -- a map has at most one key more than its temporary ones
 pub few-keys : (m : List Cell) (l : List ℕ) → Rising m → All (λ c. (c .key ≡ 0) ⊎ In (c .key) l) m → length m ≤ suc (length l)

@@ -1,11 +1,11 @@
 -- counting below n: two majorities meet
 use mathlib.Core.Path.{_≡_, refl, sym, ap, ap₂, subst, _∙_}
-use mathlib.Core.Logic.{_≢_, _⊎_, inl, inr}
+use mathlib.Core.Logic.{_≢_, inl, inr}
 use mathlib.Core.Bool.{Bool, true, false, cond}
-use Prim.Native.Nat.{ℕ, zero, suc, _+_, _≤_, _<_, _/_, max}
+use Prim.Native.Nat.{ℕ, zero, suc, _+_, _≤_, _<_}
 use native.Mathlib.Omega.{arith}
 use Rattle.std.proofs.shelf.Tests.{cond-both, cond-true, cond-false, both-ways, cases-eq}
-use Rattle.protocol.specs.Phases.{count, most}
+use Rattle.protocol.specs.Phases.{majority, count, most}
 
 pub count-mono : (p r : ℕ → Bool) (n : ℕ) → ((i : ℕ) → i < n → p i ≡ true → r i ≡ true) → count p n ≤ count r n
 count-mono p r zero h = omega arith
@@ -26,7 +26,7 @@ count-meet p r (suc n) h = go (p n) (r n) refl refl h (count-meet p r n)
     go false true x y l ih = let z = ih (omega arith) in (z .0, omega (arith, z .1), z .2, z .3)
     go false false x y l ih = let z = ih (omega arith) in (z .0, omega (arith, z .1), z .2, z .3)
 
-pub quorums-meet : (p r : ℕ → Bool) (n : ℕ) → n / 2 + 1 ≤ count p n → n / 2 + 1 ≤ count r n → (i : ℕ) × (i < n) × (p i ≡ true) × (r i ≡ true)
+pub quorums-meet : (p r : ℕ → Bool) (n : ℕ) → majority n ≤ count p n → majority n ≤ count r n → (i : ℕ) × (i < n) × (p i ≡ true) × (r i ≡ true)
 quorums-meet p r n h k = count-meet p r n (omega arith)
 
 pub most-above : (f : ℕ → ℕ) (n i : ℕ) → i < n → f i ≤ most f n

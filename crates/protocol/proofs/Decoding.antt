@@ -1,28 +1,28 @@
 -- A line's record read as the model's progress, and that a request and an answer move both alike.
-use mathlib.Core.Path.{_≡_, refl, sym, ap, ap₂, subst, _∙_}
+use mathlib.Core.Path.{_≡_, refl, sym, ap, _∙_}
 use mathlib.Core.Logic.{_≢_}
 use mathlib.Core.Bool.{Bool, true, false, cond, _||_}
 use mathlib.Core.List.{List, [], _∷_, map}
-use Prim.Native.Nat.{ℕ, suc, _≤_, _<_, max}
+use Prim.Native.Nat.{ℕ, suc, _≤_}
 use native.Mathlib.Omega.{arith}
 use lib.Dec.{eqb, ltb, leb}
 use lib.ListN.{length, getD, drop}
 use Rattle.std.specs.Options.{mapped, isSome}
 use Rattle.std.specs.declared.option.Option.{Option}
 use Rattle.std.specs.declared.option.Option.the-variants.{Some, None}
-use Rattle.std.proofs.shelf.Tests.{ne-eqb, cond-both, cond-true, lt-ltb, eqb-true, eqb-false, true≢false}
+use Rattle.std.proofs.shelf.Tests.{cond-both, cond-true, lt-ltb, eqb-true, true≢false}
 use Rattle.stores.specs.Keyed.{find, put}
 use Rattle.stores.specs.Operations.{room-for}
 use Rattle.stores.specs.Provider.{Pair, Cell, Provider, cell-key}
 use Rattle.protocol.specs.Lines.{Progress}
-use Rattle.protocol.specs.Moves.{largest-key, keys-but, keep-list, remove-or-put, finished, to-stage, advance}
-use Rattle.protocol.specs.Requests.{Request, list-keys, get-key, put-cell, remove-key, Reply, got, reply, served}
+use Rattle.protocol.specs.Moves.{largest-key, older-keys, mark-after, remove-or-put, to-stage, advance}
+use Rattle.protocol.specs.Requests.{Request, list-keys, get-key, put-cell, remove-key, got, reply, served}
 use Rattle.protocol.specs.Law.{found-no-room}
 use Rattle.protocol.specs.Seats.{listing, gathering, storing}
 use Rattle.protocol.specs.Stages.{request-of}
 use Rattle.protocol.specs.declared.stage.Stage.{Stage}
 use Rattle.protocol.specs.declared.stage.Stage.the-variants as at
-use Rattle.protocol.proofs.Model.{Code, cell-of, StoreProgress, to-list, to-remove, to-put-standing, to-put-own, to-remove-largest, stored, GatherProgress, to-list-again, to-get-largest, to-get-standing, found-none, found, top, lesser, carry, to-remove-all, ask-store, next-store, ask-gather, next-gather, listed-gather, got-largest, got-standing, listed-once, list-done, store-done, gather-done}
+use Rattle.protocol.proofs.Model.{Code, cell-of, StoreProgress, to-list, to-remove, to-put-standing, to-put-own, to-remove-largest, stored, GatherProgress, to-list-again, to-get-largest, to-get-standing, found-none, found, top, carry, to-remove-all, ask-store, next-store, ask-gather, next-gather, listed-gather, got-largest, got-standing, listed-once, list-done, store-done, gather-done}
 
 abbrev pub list-progress : Progress → Option ℕ
 list-progress p = cond (p .done) (Some (p .largest)) None
@@ -161,19 +161,6 @@ reply-roomy (get-key k) d l = refl
 reply-roomy (put-cell c) d l = rw (room c d l) refl
 reply-roomy (remove-key k) d l = refl
 
--- the keys that a provider lists
-largest-top : (m : List Cell) → largest-key (map cell-key m) ≡ top m
-largest-top [] = refl
-largest-top (c ∷ m) = ap (max (c .key)) (largest-top m)
-
-but-lesser : (t : ℕ) (m : List Cell) → keys-but t (map cell-key m) ≡ lesser t m
-but-lesser t [] = refl
-but-lesser t (c ∷ m) = ap (λ z. cond (eqb (c .key) 0 || eqb (c .key) t) z (c .key ∷ z)) (but-lesser t m) ∙ go (eqb (c .key) 0)
-  where
-    go : (b : Bool) → cond (b || eqb (c .key) t) (lesser t m) (c .key ∷ lesser t m) ≡ cond b (lesser t m) (cond (eqb (c .key) t) (lesser t m) (c .key ∷ lesser t m))
-    go true = refl
-    go false = refl
-
 through : {X Y : Type 0} (f : X → Y) (b : Bool) (x y : X) → f (cond b x y) ≡ cond b (f x) (f y)
 through f true x y = refl
 through f false x y = refl
@@ -187,15 +174,12 @@ list-moves x p d = go (p .done)
   where
     go : (b : Bool) → let p : Progress = fields (p .stage) b (p .mark) (p .older) (p .largest) (p .found) in list-progress (advance (listing x) (reply list-keys d) p) ≡ listed-once (list-progress p) (top (d .cells))
     go true = refl
-    go false = ap Some (largest-top (d .cells))
+    go false = refl
 
 -- the keys that are left to remove
 rest-progress : (o : List ℕ) (g : Stage) (k t : ℕ) (z : Option Pair) → store-progress (remove-or-put o (fields g false k o t z)) ≡ to-remove-all o t
 rest-progress [] g k t z = refl
 rest-progress (y ∷ o) g k t z = refl
-
-listed-progress : (g : Stage) (k : ℕ) (z : Option Pair) (m : List Cell) → let l = map cell-key m in store-progress (remove-or-put (keys-but (largest-key l) l) (fields g false k (keys-but (largest-key l) l) (largest-key l) z)) ≡ to-remove-all (lesser (top m) m) (top m)
-listed-progress g k z m = let l = map cell-key m in rest-progress (keys-but (largest-key l) l) g k (largest-key l) z ∙ ap₂ to-remove-all (but-lesser (largest-key l) m ∙ ap (λ t. lesser t m) (largest-top m)) (largest-top m)
 
 pub store-moves : (b : Bool) (v : ℕ) (x : Code) (p : Progress) (d : Provider) → v ≢ 0 → Roomy (ask-store v x (store-progress p)) d →
     store-progress (advance (storing b v x) (reply (ask-store v x (store-progress p)) d) p) ≡ next-store v (d .cells) (store-progress p)
@@ -212,13 +196,13 @@ store-moves b v x p d nz l = go (p .done) (p .stage) l
     go : (a : Bool) (g : Stage) → let p : Progress = fields g a (p .mark) (p .older) (p .largest) (p .found) in Roomy (ask-store v x (store-progress p)) d →
         store-progress (advance (storing b v x) (reply (ask-store v x (store-progress p)) d) p) ≡ next-store v (d .cells) (store-progress p)
     go true g l = refl
-    go false at.List l = listed-progress at.List (p .mark) (p .found) (d .cells)
+    go false at.List l = rest-progress (older-keys (map cell-key (d .cells))) at.List (p .mark) (top (d .cells)) (p .found)
     go false at.RemoveOlder l = rest-progress (drop 1 (p .older)) at.RemoveOlder (p .mark) (p .largest) (p .found)
     go false at.PutStanding l = rw (room (cell-of 0 v x) d l) (through store-progress (eqb (p .largest) 0 || ltb (p .largest) v) _ _ ∙ ap (λ t. cond t (to-put-own (p .largest)) stored) (below (p .largest)))
     go false at.PutOwn l = rw (room (cell-of v v x) d l) (through store-progress (eqb (p .largest) 0) _ _)
     go false at.RemoveLargest l = refl
-    go false at.GetLargest l = listed-progress at.GetLargest (p .mark) (p .found) (d .cells)
-    go false at.GetStanding l = listed-progress at.GetStanding (p .mark) (p .found) (d .cells)
+    go false at.GetLargest l = rest-progress (older-keys (map cell-key (d .cells))) at.GetLargest (p .mark) (top (d .cells)) (p .found)
+    go false at.GetStanding l = rest-progress (older-keys (map cell-key (d .cells))) at.GetStanding (p .mark) (top (d .cells)) (p .found)
 
 pub gather-moves : (b : Bool) (p : Progress) (d : Provider) → gather-progress (advance (gathering b) (reply (ask-gather (gather-progress p)) d) p) ≡ next-gather (d .cells) (gather-progress p)
 gather-moves b p d = go (p .done) (p .stage)
@@ -227,8 +211,8 @@ gather-moves b p d = go (p .done) (p .stage)
     m = d .cells
 
     listed : (g : Stage) → let l = map cell-key m in
-        gather-progress (cond (eqb (largest-key l) 0) (fields g true (p .mark) (keys-but (largest-key l) l) (largest-key l) None) (fields at.GetLargest false (cond (eqb (p .mark) 0) (largest-key l) (p .mark)) (keys-but (largest-key l) l) (largest-key l) (p .found))) ≡ listed-gather (top m) (p .mark)
-    listed g = let l = map cell-key m in through gather-progress (eqb (largest-key l) 0) _ _ ∙ ap (λ t. listed-gather t (p .mark)) (largest-top m)
+        gather-progress (cond (eqb (largest-key l) 0) (fields g true (p .mark) (older-keys l) (largest-key l) None) (fields at.GetLargest false (mark-after (p .mark) (largest-key l)) (older-keys l) (largest-key l) (p .found))) ≡ listed-gather (top m) (p .mark)
+    listed g = let l = map cell-key m in through gather-progress (eqb (largest-key l) 0) _ _
 
     largest : (o : Option Cell) → gather-progress (advance (gathering b) (got (mapped (λ c. c .pair) o)) (fields at.GetLargest false (p .mark) (p .older) (p .largest) (p .found))) ≡ got-largest (p .mark) o
     largest None = refl

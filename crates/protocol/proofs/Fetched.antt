@@ -1,5 +1,5 @@
 -- A fetch as a whole.
-use mathlib.Core.Path.{_≡_, refl, sym, ap, ap₂, subst, subst₂, _∙_}
+use mathlib.Core.Path.{_≡_, refl, sym, ap, subst, subst₂, _∙_}
 use mathlib.Core.Logic.{_≢_}
 use mathlib.Core.Bool.{Bool, true, false, _&&_}
 use Prim.Native.Nat.{ℕ, suc, _≤_, _<_}
@@ -18,12 +18,11 @@ use Rattle.protocol.specs.Steps.{unless-full}
 use Rattle.protocol.proofs.Counting.{count-one}
 use Rattle.protocol.proofs.Decoding.{list-progress, list-is-done}
 use Rattle.protocol.proofs.Fetching.{settle-list, settle-gather, settle-store}
-use Rattle.protocol.proofs.Invariant.{Invariant, at-line}
+use Rattle.protocol.proofs.Invariant.{Invariant}
 use Rattle.protocol.proofs.Model as M
 use Rattle.protocol.proofs.Model.{Code, list-done, top}
 use Rattle.protocol.proofs.ModelLines.{TransitOk, update-same, update-other}
 use Rattle.protocol.proofs.ModelSteps as S
-use Rattle.protocol.proofs.ModelSteps.{ModelState}
 use Rattle.protocol.proofs.Register.{goes, both}
 use Rattle.protocol.proofs.Simulation.{transit-of, pend, pending, seen, Match, DoingOk, Come, Always, But, story, Reached, still, same-progress, line-roomy, doing-same}
 use Rattle.protocol.proofs.Calling.{doing-line}

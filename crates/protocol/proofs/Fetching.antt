@@ -1,5 +1,5 @@
 -- Fetch keeps a view and its history matched to a run.
-use mathlib.Core.Path.{_≡_, refl, sym, ap, ap₂, subst, subst₂, _∙_}
+use mathlib.Core.Path.{_≡_, refl, sym, ap, subst, subst₂, _∙_}
 use mathlib.Core.Logic.{_≢_, inl, inr}
 use mathlib.Core.Bool.{Bool, true, false, cond, _&&_}
 use mathlib.Core.List.{List, [], _∷_, _++_}
@@ -8,34 +8,27 @@ use native.Mathlib.Omega.{arith}
 use lib.Dec.{eqb, leb}
 use Rattle.std.specs.declared.option.Option.{Option}
 use Rattle.std.specs.declared.option.Option.the-variants.{Some, None}
-use Rattle.std.proofs.shelf.Tests.{cond-both, cond-true, cases-eq, eq-eqb, leb-true, leb-false, true≢false}
+use Rattle.std.proofs.shelf.Tests.{cond-both, cond-true, cases-eq, eq-eqb, leb-true, leb-false}
 use Rattle.stores.specs.Provider.{Pair}
-use Rattle.protocol.specs.Answers.{Answer, on, dropped, refused}
+use Rattle.protocol.specs.Answers.{on}
 use Rattle.protocol.specs.History.{History, Operation, Doing, resting, writing, reading, update, fetch-noted, wrote-by, read-by}
-use Rattle.protocol.specs.Law.{Each-two, Rises, found-no-room, holds-no-room}
-use Rattle.protocol.specs.Lines.{LineState, free, sent, answered, is-free, Progress, Line, restarted, restart-line}
-use Rattle.protocol.specs.Moves.{advance}
-use Rattle.protocol.specs.Phases.{count, majority, counts, done-lines, listed-on, largest-listed, found-on, version-in, newest-found, next-version, most, Outcome, goes-on, turns, end-gathering, outcome}
-use Rattle.protocol.specs.Requests.{Reply, keys-are, got, accepted, no-room}
-use Rattle.protocol.specs.Seats.{Activity, idle, stopped, listing, gathering, storing, is-stopped}
-use Rattle.protocol.specs.Stages.{foreign}
-use Rattle.protocol.specs.Steps.{unless-full}
+use Rattle.protocol.specs.Lines.{is-free, restarted, restart-line}
+use Rattle.protocol.specs.Phases.{count, majority, done-lines, listed-on, largest-listed, found-on, version-in, newest-found, next-version, most, Outcome, goes-on, end-gathering, outcome}
+use Rattle.protocol.specs.Seats.{Activity, idle, listing, gathering, storing}
 use Rattle.protocol.proofs.Arrangements.{Insert, Arranged, more, to-front, from-front, insert-under, ordered-inserted, ended-arranged}
-use Rattle.protocol.proofs.Counting.{count-one}
 use Rattle.protocol.proofs.Decoding.{list-progress, store-progress, gather-progress, list-is-done, store-is-done, gather-is-done}
-use Rattle.protocol.proofs.Invariant.{Invariant, at1, at3, at-line}
+use Rattle.protocol.proofs.Invariant.{at1, at3}
 use Rattle.protocol.proofs.Model as M
-use Rattle.protocol.proofs.Model.{Code, ModelSeat, list-done, store-done, gather-done, top}
-use Rattle.protocol.proofs.ModelLines.{TransitOk, update-same, update-other}
+use Rattle.protocol.proofs.Model.{Code, ModelSeat, list-done, store-done, gather-done}
+use Rattle.protocol.proofs.ModelLines.{update-same, update-other}
 use Rattle.protocol.proofs.ModelSteps as S
-use Rattle.protocol.proofs.ModelSteps.{ModelState, Step, update-two, or-zero, version-of}
+use Rattle.protocol.proofs.ModelSteps.{ModelState, Step, or-zero, version-of}
 use Rattle.protocol.proofs.OpenWrites.{own, own-short, own-long, opens, opens-same, opens-insert, write-since}
 use Rattle.protocol.proofs.Quorums.{listed-free, found-free, newest-most, now, seat-eq, quorum, most-eq, Picked, picked}
-use Rattle.protocol.proofs.Register.{goes, both, register}
-use Rattle.protocol.proofs.Simulation.{transit-of, pend, pending, seen, Match, DoingOk, Come, Always, But, told, story, Reached, still, same-progress, enter-match, turn-roomy, line-roomy, doing-same}
-use Rattle.protocol.proofs.Trace.{Trace, trace-step, insert-ordered, end-writes}
-use Rattle.protocol.proofs.Updates.{update-two-map, update-two-row, update-two-else}
-use Rattle.protocol.proofs.View.{View, with-line, turn, version-kept, conclude, fetch-line, fetch}
+use Rattle.protocol.proofs.Register.{goes, register}
+use Rattle.protocol.proofs.Simulation.{seen, DoingOk, Come, But, told, story, Reached, enter-match, turn-roomy}
+use Rattle.protocol.proofs.Trace.{Trace, trace-step, end-writes}
+use Rattle.protocol.proofs.View.{View, turn, version-kept, conclude}
 
 module _ (n seats : ℕ) (V : View) (s : ℕ) (l : s < seats) (w : Come n seats V (But s)) where
   abbrev q : ℕ

@@ -1,15 +1,15 @@
 -- A history of seats from 0 on, as the proof has it, and the history of the calls, whose seats count from 1.
 use mathlib.Core.Path.{_≡_, refl, sym, ap, ap₂, subst, _∙_}
-use mathlib.Core.Logic.{_≢_, inl, inr}
-use mathlib.Core.Bool.{Bool, true, false, cond}
-use mathlib.Core.List.{List, [], _∷_, _++_}
-use Prim.Native.Nat.{ℕ, zero, suc, _<_}
+use mathlib.Core.Logic.{inl, inr}
+use mathlib.Core.Bool.{Bool, true, false}
+use mathlib.Core.List.{List, _∷_, _++_}
+use Prim.Native.Nat.{ℕ, zero, suc}
 use native.Mathlib.Omega.{arith}
 use lib.Dec.{eqb}
 use Rattle.std.specs.declared.option.Option.{Option}
 use Rattle.std.proofs.shelf.Tests.{cond-true, cond-false, eq-eqb, ne-eqb, cases-eq}
 use Rattle.protocol.specs.Answers.{Answer, ok, on, dropped, wrote, read, read-none, used, refused}
-use Rattle.protocol.specs.History.{History, Operation, Doing, resting, writing, reading, update, begins, begin-noted, rests, ended-now, wrote-by, read-by, heard-on, fetch-noted, next-call, open-write, open-writes}
+use Rattle.protocol.specs.History.{History, Operation, Doing, resting, writing, reading, update, begins, begin-noted, rests, ended-now, wrote-by, read-by, fetch-noted, next-call, open-write, open-writes}
 use Rattle.protocol.proofs.Model.{Code}
 use Rattle.protocol.proofs.OpenWrites.{own, opens}
 

@@ -2,24 +2,23 @@
 use mathlib.Core.Path.{_≡_, refl, sym, ap, subst, subst₂, _∙_}
 use mathlib.Core.Logic.{_≢_, _⊎_, inl, inr}
 use mathlib.Core.Bool.{Bool, true, false, cond, _&&_}
-use mathlib.Core.List.{List, [], _∷_, _++_, map}
+use mathlib.Core.List.{List}
 use Rattle.std.specs.declared.option.Option.{Option}
 use Rattle.std.specs.declared.option.Option.the-variants.{Some, None}
-use Prim.Native.Nat.{ℕ, zero, suc, _+_, _*_, _/_, _%_, _≤_, _<_, max}
+use Prim.Native.Nat.{ℕ, suc, _≤_, _<_, max}
 use native.Mathlib.Omega.{arith}
 use native.Mathlib.Nat.{le-trans}
-use lib.Dec.{eqb, ltb, leb}
+use lib.Dec.{eqb, leb}
 use Rattle.std.proofs.shelf.Tests.{cond-both, cond-true, eqb-true, eqb-false, cases-eq, cases-lt, leb-true, le-leb, and-parts, false≢true}
-use Rattle.stores.specs.Keyed.{find, put, without}
-use Rattle.stores.specs.Provider.{Cell, cell-key}
-use Rattle.protocol.specs.Requests.{Request, list-keys, get-key, put-cell, remove-key}
+use Rattle.stores.specs.Provider.{Cell}
+use Rattle.protocol.specs.Requests.{Request}
 use Rattle.protocol.specs.History.{update}
-use Rattle.protocol.specs.Phases.{count, most, next-version}
-use Rattle.protocol.proofs.Model.{Code, top, Tag, carry, retag, ask-gather, ask-store, ask, next, list-done, gather-done, store-done}
+use Rattle.protocol.specs.Phases.{majority, count, most, next-version}
+use Rattle.protocol.proofs.Model.{Code, top, Tag, carry, retag, ask, list-done, gather-done, store-done}
 use Rattle.protocol.proofs.Model.{StoreProgress, to-list, to-remove, to-put-standing, to-put-own, to-remove-largest, stored, GatherProgress, to-list-again, to-get-largest, to-get-standing, found-none, found, ModelSeat, idle, stopped, listing, gathering, storing, Transit, free, sent, returned}
 use Rattle.protocol.proofs.ModelSteps.{ModelProvider, ModelState, update-two, stale, is-free, listed, found-at, or-zero, version-of, provider-land, moved, post, fetch, land, enter, stop, begin, go-on, give, finish, blank-list, blank-gather, blank-store, owner, Active, Step, posts, lands, fetches, begins-write, begins-read, stops, gives, uses-up, finds, reads, reads-none, ends}
-use Rattle.protocol.proofs.Providers.{ProviderOk, RequestOk, Keeps, keeps, grows, provider-kept}
-use Rattle.protocol.proofs.ModelLines.{ListOk, GatherOk, StoreOk, ProgOk, TransitOk, SeatOk, Asked, prog-frame, transit-frame, prog-land, prog-else, asked-else, Blank, Heard, blank-else, heard-else, heard-here, blank-prog, post-ok, asked-ask, more-prog, more-transit, more-seat, more-provider, stale-transit, update-same, update-other}
+use Rattle.protocol.proofs.Providers.{ProviderOk, RequestOk, keeps, grows, provider-kept}
+use Rattle.protocol.proofs.ModelLines.{ListOk, GatherOk, StoreOk, ProgressOk, TransitOk, SeatOk, Asked, progress-frame, transit-frame, progress-land, progress-else, asked-else, Blank, blank-else, heard-else, heard-here, blank-progress, post-ok, asked-ask, more-progress, more-transit, more-seat, more-provider, stale-transit, update-same, update-other}
 use Rattle.protocol.proofs.Counting.{count-mono, quorums-meet, most-above}
 
 -- an update at one place, or at one seat and one provider: what holds there, and elsewhere
@@ -54,7 +53,7 @@ at-line P f s i z h k o j =
 
 pub record LineOk (g : ℕ → Option Code) (s : ℕ) (d : ModelProvider) (f i : ℕ) (q : ModelSeat) (w : Transit) : Type 0 where
   pub above : f ≤ top (d .cells)
-  pub prog : ProgOk g s (top (d .cells)) (d .tags) f i q
+  pub progress : ProgressOk g s (top (d .cells)) (d .tags) f i q
   pub transit : TransitOk g s (top (d .cells)) (d .tags) i q w
 
 -- a seat's last version, and that of its operation, among those finished
@@ -78,8 +77,8 @@ pub record Invariant (n seats : ℕ) (st : ModelState) : Type 0 where
   pub activities : (s : ℕ) → SeatOk (st .given) s (st .seat s)
   pub ranks : (s : ℕ) → Rank (st .highest) (st .low s) (st .latest s) (st .seat s)
   pub lows : (s : ℕ) → st .low s ≤ st .highest
-  pub begun : (s : ℕ) → n / 2 + 1 ≤ count (λ i. leb (st .low s) (st .floor s i)) n
-  pub risen : n / 2 + 1 ≤ count (λ i. leb (st .highest) (top (st .provider i .cells))) n
+  pub begun : (s : ℕ) → majority n ≤ count (λ i. leb (st .low s) (st .floor s i)) n
+  pub risen : majority n ≤ count (λ i. leb (st .highest) (top (st .provider i .cells))) n
   pub fresh : (v : ℕ) (x : Code) → st .given v ≡ Some x → (v ≢ 0) × (v ≤ st .latest (owner v))
 
 -- what a landing leaves of a seat
@@ -110,22 +109,22 @@ module _ (g : ℕ → Option Code) (s : ℕ) (m : List Cell) (E : List Tag) (sea
   moved-transit t F i j false q (returned true) d h = blank-else g s m E seats ok i j q d h
   moved-transit t F i j false q (returned false) d h = heard-else g s m E seats ok i j q d h
 
-  moved-else : (t : ℕ) (F : List Tag) (f i j : ℕ) (b : Bool) (q : ModelSeat) → i ≢ j → ProgOk g s t F f j q → ProgOk g s t F f j (moved b q i m)
+  moved-else : (t : ℕ) (F : List Tag) (f i j : ℕ) (b : Bool) (q : ModelSeat) → i ≢ j → ProgressOk g s t F f j q → ProgressOk g s t F f j (moved b q i m)
   moved-else t F f i j true q d h = h
-  moved-else t F f i j false q d h = prog-else g s m E seats ok t F f i j q d h
+  moved-else t F f i j false q d h = progress-else g s m E seats ok t F f i j q d h
 
 module _ (n seats : ℕ) (st : ModelState) (inv : Invariant n seats st) where
   -- the line's own landing, stale or not
   module _ (s i : ℕ) (r : Request) (l : s < seats) where
-    pub here-prog : (b : Bool) → st .transit s i ≡ sent b r → RequestOk (st .given) s (top (st .provider i .cells)) (st .provider i .tags) r × ProgOk (st .given) s (top (carry r (st .provider i .cells))) (retag s r (st .provider i .tags)) (st .floor s i) i (moved b (st .seat s) i (st .provider i .cells))
-    here-prog true e =
+    pub here-progress : (b : Bool) → st .transit s i ≡ sent b r → RequestOk (st .given) s (top (st .provider i .cells)) (st .provider i .tags) r × ProgressOk (st .given) s (top (carry r (st .provider i .cells))) (retag s r (st .provider i .tags)) (st .floor s i) i (moved b (st .seat s) i (st .provider i .cells))
+    here-progress true e =
         let d = st .provider i in
         let ok : RequestOk (st .given) s (top (d .cells)) (d .tags) r × Blank (st .given) s i (st .seat s) = subst (TransitOk (st .given) s (top (d .cells)) (d .tags) i (st .seat s)) e (inv .lines s i .transit) in
-        (ok .0, blank-prog (st .given) s (top (carry r (d .cells))) (retag s r (d .tags)) (st .floor s i) i (st .seat s) (ok .1))
-    here-prog false e =
+        (ok .0, blank-progress (st .given) s (top (carry r (d .cells))) (retag s r (d .tags)) (st .floor s i) i (st .seat s) (ok .1))
+    here-progress false e =
         let d = st .provider i in
         let ok : RequestOk (st .given) s (top (d .cells)) (d .tags) r × Asked (st .given) s i r (st .seat s) = subst (TransitOk (st .given) s (top (d .cells)) (d .tags) i (st .seat s)) e (inv .lines s i .transit) in
-        (ok .0, prog-land (st .given) s (d .cells) (d .tags) seats (inv .providers i) (st .floor s i) i r (st .seat s) (inv .lines s i .above) (ok .0) (ok .1) (inv .lines s i .prog))
+        (ok .0, progress-land (st .given) s (d .cells) (d .tags) seats (inv .providers i) (st .floor s i) i r (st .seat s) (inv .lines s i .above) (ok .0) (ok .1) (inv .lines s i .progress))
 
     here-transit : (b : Bool) → st .transit s i ≡ sent b r → TransitOk (st .given) s (top (carry r (st .provider i .cells))) (retag s r (st .provider i .tags)) i (moved b (st .seat s) i (st .provider i .cells)) (returned b)
     here-transit true e = (subst (TransitOk (st .given) s (top (st .provider i .cells)) (st .provider i .tags) i (st .seat s)) e (inv .lines s i .transit)) .1
@@ -137,15 +136,15 @@ module _ (n seats : ℕ) (st : ModelState) (inv : Invariant n seats st) where
       let g = st .given in
       let q : ModelSeat = moved b (st .seat s) i (d .cells) in
       let d′ : ModelProvider = provider-land s r d in
-      let ok = here-prog s i r l b e in
+      let ok = here-progress s i r l b e in
       let up = grows g s (d .cells) (d .tags) r (ok .0) in
       let rise : (j : ℕ) → top (st .provider j .cells) ≤ top (update (st .provider) i d′ j .cells) = at1 (λ j d. top (st .provider j .cells) ≤ top (d .cells)) (st .provider) i d′ up (λ j _. omega arith) in
       record {
         providers = at1 (λ j d. ProviderOk seats g (d .cells) (d .tags)) (st .provider) i d′ (provider-kept g s (d .cells) (d .tags) seats l (inv .providers i) r (ok .0)) (λ j _. inv .providers j);
         lines = at2 (λ s i q d w. LineOk g s d (st .floor s i) i q w) (st .seat) (st .provider) (st .transit) s i q d′ (returned b)
-            (record { above = omega (arith, inv .lines s i .above); prog = ok .1; transit = here-transit s i r l b e })
-            (λ j ne. record { above = inv .lines s j .above; prog = moved-else g s (d .cells) (d .tags) seats (inv .providers i) (top (st .provider j .cells)) (st .provider j .tags) (st .floor s j) i j b (st .seat s) ne (inv .lines s j .prog); transit = moved-transit g s (d .cells) (d .tags) seats (inv .providers i) (top (st .provider j .cells)) (st .provider j .tags) i j b (st .seat s) (st .transit s j) ne (inv .lines s j .transit) })
-            (λ o ne. let k = keeps o s (d .tags) r ne in record { above = omega (arith, inv .lines o i .above); prog = prog-frame g o (top (d .cells)) (top (d′ .cells)) (d .tags) (d′ .tags) (st .floor o i) i (st .seat o) up k (inv .lines o i .prog); transit = transit-frame g o (top (d .cells)) (top (d′ .cells)) (d .tags) (d′ .tags) i (st .seat o) (st .transit o i) up k (inv .lines o i .transit) })
+            (record { above = omega (arith, inv .lines s i .above); progress = ok .1; transit = here-transit s i r l b e })
+            (λ j ne. record { above = inv .lines s j .above; progress = moved-else g s (d .cells) (d .tags) seats (inv .providers i) (top (st .provider j .cells)) (st .provider j .tags) (st .floor s j) i j b (st .seat s) ne (inv .lines s j .progress); transit = moved-transit g s (d .cells) (d .tags) seats (inv .providers i) (top (st .provider j .cells)) (st .provider j .tags) i j b (st .seat s) (st .transit s j) ne (inv .lines s j .transit) })
+            (λ o ne. let k = keeps o s (d .tags) r ne in record { above = omega (arith, inv .lines o i .above); progress = progress-frame g o (top (d .cells)) (top (d′ .cells)) (d .tags) (d′ .tags) (st .floor o i) i (st .seat o) up k (inv .lines o i .progress); transit = transit-frame g o (top (d .cells)) (top (d′ .cells)) (d .tags) (d′ .tags) i (st .seat o) (st .transit o i) up k (inv .lines o i .transit) })
             (λ o j _ _. inv .lines o j);
         activities = at1 (λ s q. SeatOk g s q) (st .seat) s q (moved-seat g s (d .cells) (d .tags) seats (inv .providers i) b (st .seat s) i (inv .activities s)) (λ o _. inv .activities o);
         ranks = at1 (λ s q. Rank (st .highest) (st .low s) (st .latest s) q) (st .seat) s q (moved-rank g s (d .cells) (d .tags) seats (inv .providers i) (st .highest) (st .low s) (st .latest s) b (st .seat s) i (inv .ranks s)) (λ o _. inv .ranks o);
@@ -159,7 +158,7 @@ module _ (n seats : ℕ) (st : ModelState) (inv : Invariant n seats st) where
   post-inv s i a = record {
     providers = inv .providers;
     lines = at-line (λ o j w. LineOk (st .given) o (st .provider j) (st .floor o j) j (st .seat o) w) (st .transit) s i (sent false (ask (st .seat s) i))
-        (let h = inv .lines s i in record { above = h .above; prog = h .prog; transit = (post-ok (st .given) s (top (st .provider i .cells)) (st .provider i .tags) (st .floor s i) i (st .seat s) (inv .activities s) (h .prog), asked-ask (st .given) s i (st .seat s) a) })
+        (let h = inv .lines s i in record { above = h .above; progress = h .progress; transit = (post-ok (st .given) s (top (st .provider i .cells)) (st .provider i .tags) (st .floor s i) i (st .seat s) (inv .activities s) (h .progress), asked-ask (st .given) s i (st .seat s) a) })
         (inv .lines);
     activities = inv .activities;
     ranks = inv .ranks;
@@ -173,7 +172,7 @@ module _ (n seats : ℕ) (st : ModelState) (inv : Invariant n seats st) where
   fetch-inv s i = record {
     providers = inv .providers;
     lines = at-line (λ o j w. LineOk (st .given) o (st .provider j) (st .floor o j) j (st .seat o) w) (st .transit) s i free
-        (let h = inv .lines s i in record { above = h .above; prog = h .prog; transit = tt })
+        (let h = inv .lines s i in record { above = h .above; progress = h .progress; transit = tt })
         (inv .lines);
     activities = inv .activities;
     ranks = inv .ranks;
@@ -186,18 +185,18 @@ module _ (n seats : ℕ) (st : ModelState) (inv : Invariant n seats st) where
   -- one lemma for all that starts a phase or ends an operation
   enter-inv : (s : ℕ) (q : ModelSeat) (g : ℕ → Option Code) (low : ℕ) (floor : ℕ → ℕ) (highest latest : ℕ) →
       ((v : ℕ) (x : Code) → st .given v ≡ Some x → g v ≡ Some x) → ((i : ℕ) → Blank g s i q) → SeatOk g s q → Rank highest low latest q → st .highest ≤ highest → low ≤ highest →
-      ((i : ℕ) → floor i ≤ top (st .provider i .cells)) → n / 2 + 1 ≤ count (λ i. leb low (floor i)) n → n / 2 + 1 ≤ count (λ i. leb highest (top (st .provider i .cells))) n →
+      ((i : ℕ) → floor i ≤ top (st .provider i .cells)) → majority n ≤ count (λ i. leb low (floor i)) n → majority n ≤ count (λ i. leb highest (top (st .provider i .cells))) n →
       ((v : ℕ) (x : Code) → g v ≡ Some x → (v ≢ 0) × (v ≤ update (st .latest) s latest (owner v))) →
       Invariant n seats (enter st s q g low floor highest latest)
   enter-inv s q g low floor highest latest more blank activity rank c l under quorum risen fresh = record {
     providers = λ i. more-provider (st .given) g more seats (st .provider i .cells) (st .provider i .tags) (inv .providers i);
     lines = at3 (λ o f q w. (i : ℕ) → LineOk g o (st .provider i) (f i) i q (w i)) (st .floor) (st .seat) (st .transit) s floor q (λ i. stale (st .transit s i))
-        (λ i. let d = st .provider i in record { above = under i; prog = blank-prog g s (top (d .cells)) (d .tags) (floor i) i q (blank i); transit = stale-transit (st .given) g more s (top (d .cells)) (d .tags) i (st .seat s) q (st .transit s i) (blank i) (inv .lines s i .transit) })
-        (λ o _ i. let d = st .provider i in let h = inv .lines o i in record { above = h .above; prog = more-prog (st .given) g more o (top (d .cells)) (d .tags) (st .floor o i) i (st .seat o) (h .prog); transit = more-transit (st .given) g more o (top (d .cells)) (d .tags) i (st .seat o) (st .transit o i) (h .transit) });
+        (λ i. let d = st .provider i in record { above = under i; progress = blank-progress g s (top (d .cells)) (d .tags) (floor i) i q (blank i); transit = stale-transit (st .given) g more s (top (d .cells)) (d .tags) i (st .seat s) q (st .transit s i) (blank i) (inv .lines s i .transit) })
+        (λ o _ i. let d = st .provider i in let h = inv .lines o i in record { above = h .above; progress = more-progress (st .given) g more o (top (d .cells)) (d .tags) (st .floor o i) i (st .seat o) (h .progress); transit = more-transit (st .given) g more o (top (d .cells)) (d .tags) i (st .seat o) (st .transit o i) (h .transit) });
     activities = at1 (λ o q. SeatOk g o q) (st .seat) s q activity (λ o _. more-seat (st .given) g more o (st .seat o) (inv .activities o));
     ranks = at3 (λ o l w q. Rank highest l w q) (st .low) (st .latest) (st .seat) s low latest q rank (λ o _. rank-rise (st .highest) highest (st .low o) (st .latest o) (st .seat o) c (inv .ranks o));
     lows = at1 (λ o l. l ≤ highest) (st .low) s low l (λ o _. omega (arith, inv .lows o));
-    begun = at3 (λ o l f q. n / 2 + 1 ≤ count (λ i. leb l (f i)) n) (st .low) (st .floor) (st .seat) s low floor q quorum (λ o _. inv .begun o);
+    begun = at3 (λ o l f q. majority n ≤ count (λ i. leb l (f i)) n) (st .low) (st .floor) (st .seat) s low floor q quorum (λ o _. inv .begun o);
     risen = risen;
     fresh = fresh;
   }
@@ -206,7 +205,7 @@ module _ (n seats : ℕ) (st : ModelState) (inv : Invariant n seats st) where
   stop-inv s = record {
     providers = inv .providers;
     lines = at3 (λ o q w f. (i : ℕ) → LineOk (st .given) o (st .provider i) (st .floor o i) i q (st .transit o i)) (st .seat) (st .seat) (st .seat) s stopped stopped stopped
-        (λ i. let h = inv .lines s i in record { above = h .above; prog = tt; transit = halt i (st .transit s i) (h .transit) })
+        (λ i. let h = inv .lines s i in record { above = h .above; progress = tt; transit = halt i (st .transit s i) (h .transit) })
         (λ o _ i. inv .lines o i);
     activities = at1 (λ o q. SeatOk (st .given) o q) (st .seat) s stopped tt (λ o _. inv .activities o);
     ranks = at1 (λ o q. Rank (st .highest) (st .low o) (st .latest o) q) (st .seat) s stopped tt (λ o _. inv .ranks o);
@@ -233,7 +232,7 @@ module _ (n seats : ℕ) (st : ModelState) (inv : Invariant n seats st) where
   go-on-inv s q blank activity rank = enter-inv s q (st .given) (st .low s) (st .floor s) (st .highest) (st .latest s) (λ v x e. e) blank activity rank (omega arith) (inv .lows s) (λ i. inv .lines s i .above) (inv .begun s) (inv .risen) (fresh-kept s)
 
   -- a majority of lines that are done meets the providers that had the largest finished version
-  meet : (s : ℕ) (f : ℕ → ℕ) (test : ℕ → Bool) → n / 2 + 1 ≤ count (λ i. is-free (st .transit s i) && test i) n → ((i : ℕ) → test i ≡ true → st .floor s i ≤ f i) → st .low s ≤ most (λ i. cond (is-free (st .transit s i)) (f i) 0) n
+  meet : (s : ℕ) (f : ℕ → ℕ) (test : ℕ → Bool) → majority n ≤ count (λ i. is-free (st .transit s i) && test i) n → ((i : ℕ) → test i ≡ true → st .floor s i ≤ f i) → st .low s ≤ most (λ i. cond (is-free (st .transit s i)) (f i) 0) n
   meet s f test quorum up =
       let z = quorums-meet (λ i. leb (st .low s) (st .floor s i)) (λ i. is-free (st .transit s i) && test i) n (inv .begun s) quorum in
       let i = z .0 in
@@ -242,15 +241,15 @@ module _ (n seats : ℕ) (st : ModelState) (inv : Invariant n seats st) where
       let here : cond (is-free (st .transit s i)) (f i) 0 ≡ f i = cond-true (is-free (st .transit s i)) (f i) 0 (two .0) in
       omega (arith, leb-true (st .low s) (st .floor s i) (z .2), up i (two .1))
 
-  pub reach-list : (s : ℕ) (x : Code) (p : ℕ → Option ℕ) → st .seat s ≡ listing x p → n / 2 + 1 ≤ count (λ i. is-free (st .transit s i) && list-done (p i)) n → st .low s ≤ most (listed st s p) n
-  reach-list s x p e quorum = meet s (λ i. or-zero (p i)) (λ i. list-done (p i)) quorum (λ i t. by (p i) t (subst (ProgOk (st .given) s (top (st .provider i .cells)) (st .provider i .tags) (st .floor s i) i) e (inv .lines s i .prog)))
+  pub reach-list : (s : ℕ) (x : Code) (p : ℕ → Option ℕ) → st .seat s ≡ listing x p → majority n ≤ count (λ i. is-free (st .transit s i) && list-done (p i)) n → st .low s ≤ most (listed st s p) n
+  reach-list s x p e quorum = meet s (λ i. or-zero (p i)) (λ i. list-done (p i)) quorum (λ i t. by (p i) t (subst (ProgressOk (st .given) s (top (st .provider i .cells)) (st .provider i .tags) (st .floor s i) i) e (inv .lines s i .progress)))
     where
       by : {f : ℕ} (o : Option ℕ) → list-done o ≡ true → ListOk f o → f ≤ or-zero o
       by None t h = absurd (false≢true t)
       by (Some k) t h = h
 
-  pub reach-find : (s : ℕ) (b : Bool) (p : ℕ → GatherProgress) → st .seat s ≡ gathering b p → n / 2 + 1 ≤ count (λ i. is-free (st .transit s i) && gather-done (p i)) n → st .low s ≤ most (found-at st s p) n
-  reach-find s b p e quorum = meet s (λ i. version-of (p i)) (λ i. gather-done (p i)) quorum (λ i t. by (p i) t (subst (ProgOk (st .given) s (top (st .provider i .cells)) (st .provider i .tags) (st .floor s i) i) e (inv .lines s i .prog)))
+  pub reach-find : (s : ℕ) (b : Bool) (p : ℕ → GatherProgress) → st .seat s ≡ gathering b p → majority n ≤ count (λ i. is-free (st .transit s i) && gather-done (p i)) n → st .low s ≤ most (found-at st s p) n
+  reach-find s b p e quorum = meet s (λ i. version-of (p i)) (λ i. gather-done (p i)) quorum (λ i t. by (p i) t (subst (ProgressOk (st .given) s (top (st .provider i .cells)) (st .provider i .tags) (st .floor s i) i) e (inv .lines s i .progress)))
     where
       by : {f : ℕ} (o : GatherProgress) → gather-done o ≡ true → GatherOk (st .given) f o → f ≤ version-of o
       by (to-list-again k) t h = absurd (false≢true t)
@@ -259,7 +258,7 @@ module _ (n seats : ℕ) (st : ModelState) (inv : Invariant n seats st) where
       by found-none t h = omega arith
       by (found v x) t h = h .0
 
-  finish-inv : (s : ℕ) (b : Bool) (v : ℕ) (x : Code) (p : ℕ → StoreProgress) → st .seat s ≡ storing b v x p → n / 2 + 1 ≤ count (λ i. is-free (st .transit s i) && store-done (p i)) n → Invariant n seats (finish st s v)
+  finish-inv : (s : ℕ) (b : Bool) (v : ℕ) (x : Code) (p : ℕ → StoreProgress) → st .seat s ≡ storing b v x p → majority n ≤ count (λ i. is-free (st .transit s i) && store-done (p i)) n → Invariant n seats (finish st s v)
   finish-inv s b v x p e quorum =
       let rank : Rank (st .highest) (st .low s) (st .latest s) (storing b v x p) = subst (Rank (st .highest) (st .low s) (st .latest s)) e (inv .ranks s) in
       enter-inv s idle (st .given) (st .low s) (st .floor s) (max (st .highest) v) (st .latest s) (λ v x e. e) (λ i. tt) tt (rank .0) (omega arith) (omega (arith, inv .lows s)) (λ i. inv .lines s i .above) (inv .begun s) (risen (cases-lt (st .highest) v)) (fresh-kept s)
@@ -272,9 +271,9 @@ module _ (n seats : ℕ) (st : ModelState) (inv : Invariant n seats st) where
       by t E (to-remove-largest big) d h = absurd (false≢true d)
       by t E stored d h = h
 
-      risen : (st .highest < v) ⊎ (v ≤ st .highest) → n / 2 + 1 ≤ count (λ i. leb (max (st .highest) v) (top (st .provider i .cells))) n
+      risen : (st .highest < v) ⊎ (v ≤ st .highest) → majority n ≤ count (λ i. leb (max (st .highest) v) (top (st .provider i .cells))) n
       risen (inl l) = le-trans quorum (count-mono _ _ n (λ i _ t. le-leb _ _ (let d = st .provider i in
-          let k = by (top (d .cells)) (d .tags) (p i) (and-parts (is-free (st .transit s i)) (store-done (p i)) t .1) (subst (ProgOk (st .given) s (top (d .cells)) (d .tags) (st .floor s i) i) e (inv .lines s i .prog)) in omega arith)))
+          let k = by (top (d .cells)) (d .tags) (p i) (and-parts (is-free (st .transit s i)) (store-done (p i)) t .1) (subst (ProgressOk (st .given) s (top (d .cells)) (d .tags) (st .floor s i) i) e (inv .lines s i .progress)) in omega arith)))
       risen (inr l) = le-trans (inv .risen) (count-mono _ _ n (λ i _ t. le-leb _ _ (omega (arith, leb-true (st .highest) (top (st .provider i .cells)) t))))
 
   pub fresh-new : (s v : ℕ) → st .latest s < v → owner v ≡ s → (u : ℕ) (y : Code) → st .given u ≡ Some y → v ≢ u
@@ -303,7 +302,7 @@ module _ (n seats : ℕ) (st : ModelState) (inv : Invariant n seats st) where
     given-inv low = enter-inv s (storing true v x blank-store) (update (st .given) v (Some x)) (st .low s) (st .floor s) (st .highest) v
         given-more (λ i. refl) (omega arith, update-same (st .given) v (Some x)) (omega arith, low) (omega arith) (inv .lows s) (λ i. inv .lines s i .above) (inv .begun s) (inv .risen) given-fresh
 
-  give-inv : (s : ℕ) (x : Code) (p : ℕ → Option ℕ) → suc s < 65536 → st .seat s ≡ listing x p → n / 2 + 1 ≤ count (λ i. is-free (st .transit s i) && list-done (p i)) n →
+  give-inv : (s : ℕ) (x : Code) (p : ℕ → Option ℕ) → suc s < 65536 → st .seat s ≡ listing x p → majority n ≤ count (λ i. is-free (st .transit s i) && list-done (p i)) n →
       Invariant n seats (give st s (storing true (next-version (most (listed st s p) n) (suc s)) x blank-store) (next-version (most (listed st s p) n) (suc s)) x)
   give-inv s x p l e quorum =
       let k = most (listed st s p) n in
@@ -311,12 +310,12 @@ module _ (n seats : ℕ) (st : ModelState) (inv : Invariant n seats st) where
       let rank : st .latest s ≤ st .low s = subst (Rank (st .highest) (st .low s) (st .latest s)) e (inv .ranks s) in
       given-inv s x p l (next-version k (suc s)) (omega arith) (omega arith) (omega arith)
 
-  find-inv : (s j : ℕ) (p : ℕ → GatherProgress) (v : ℕ) (x : Code) → st .seat s ≡ gathering true p → n / 2 + 1 ≤ count (λ i. is-free (st .transit s i) && gather-done (p i)) n →
+  find-inv : (s j : ℕ) (p : ℕ → GatherProgress) (v : ℕ) (x : Code) → st .seat s ≡ gathering true p → majority n ≤ count (λ i. is-free (st .transit s i) && gather-done (p i)) n →
       p j ≡ found v x → v ≡ most (found-at st s p) n → v ≢ 0 → Invariant n seats (go-on st s (storing false v x blank-store))
   find-inv s j p v x e quorum at big some′ =
       let reach = reach-find s true p e quorum in
       let rank : st .latest s ≤ st .highest = subst (Rank (st .highest) (st .low s) (st .latest s)) e (inv .ranks s) in
-      let h : GatherOk (st .given) (st .floor s j) (p j) = subst (ProgOk (st .given) s (top (st .provider j .cells)) (st .provider j .tags) (st .floor s j) j) e (inv .lines s j .prog) in
+      let h : GatherOk (st .given) (st .floor s j) (p j) = subst (ProgressOk (st .given) s (top (st .provider j .cells)) (st .provider j .tags) (st .floor s j) j) e (inv .lines s j .progress) in
       let f : GatherOk (st .given) (st .floor s j) (found v x) = subst (GatherOk (st .given) (st .floor s j)) at h in
       go-on-inv s (storing false v x blank-store) (λ i. refl) (some′, f .1) (omega arith, omega arith)
 

@@ -1,41 +1,38 @@
 -- The law: every list of calls on an opened relay is lawful.
-use mathlib.Core.Path.{_≡_, refl, sym, ap, ap₂, subst, subst₂, _∙_}
-use mathlib.Core.Logic.{_≢_, inl, inr}
-use mathlib.Core.Bool.{Bool, true, false, cond, _&&_, not}
+use mathlib.Core.Path.{_≡_, refl, sym, ap, subst, subst₂}
+use mathlib.Core.Logic.{_≢_}
+use mathlib.Core.Bool.{Bool, true, false, _&&_, not}
 use mathlib.Core.List.{List, [], _∷_, _++_}
 use Prim.Native.Nat.{ℕ, zero, suc, _+_, _-_, _*_, _/_, _%_, _≤_, _<_}
 use native.Mathlib.Omega.{arith}
 use native.Mathlib.Nat.{mod-lt, mod-add-div', div-lt-iff-lt-mul}
 use lib.Arith.{digits-lt}
-use lib.Dec.{eqb, ltb, leb}
+use lib.Dec.{ltb, leb}
 use lib.ListN.{length, getD, take}
 use Rattle.std.specs.shelf.Lists.{All}
-use Rattle.std.specs.shelf.Sorted.{Shuffled}
-use Rattle.std.proofs.shelf.Elements.{all-getD, all-from-getD, all-weaker}
+use Rattle.std.proofs.shelf.Elements.{all-getD, all-from-getD}
 use Rattle.std.proofs.shelf.Lists.{getD-take, length-take}
-use Rattle.std.proofs.shelf.Tests.{cond-both, cond-true, cond-false, leb-true, and-parts, true≢false, lt-ltb, ltb-true}
+use Rattle.std.proofs.shelf.Tests.{cond-both, leb-true, and-parts, true≢false, ltb-true}
 use Rattle.stores.specs.Provider.{Provider}
 use Rattle.protocol.specs.Answers.{Call, begin-write, begin-read, post, land, fetch, stop, lose, Answer}
-use Rattle.protocol.specs.History.{History, Doing, resting, writing, reading, begin-noted, fetch-noted, noted, next-call, history, no-calls, open-writes}
+use Rattle.protocol.specs.History.{History, Doing, resting, writing, reading, begin-noted, fetch-noted, noted, next-call, history, no-calls}
 use Rattle.protocol.specs.Law.{Lawful, Opened, Law, answers, end, holds-no-room, ShowsSome, NotOld, NoneBefore}
 use Rattle.protocol.specs.Lines.{Line, blank-line}
 use Rattle.protocol.specs.Lines as lines
 use Rattle.protocol.specs.Phases.{majority}
-use Rattle.protocol.specs.Seats.{Activity, idle, listing, gathering, activity, activity-in, Seat, blank-seat}
+use Rattle.protocol.specs.Seats.{idle, listing, gathering, activity-in}
 use Rattle.protocol.specs.Steps as steps
-use Rattle.protocol.specs.Steps.{State, step, seat-at, line-at, provider-at, no-provider, outside, refuse}
+use Rattle.protocol.specs.Steps.{State, step, seat-at, no-provider, outside, refuse}
 use Rattle.protocol.proofs.Arrangements.{Arranged, done, arranged-shuffled}
 use Rattle.protocol.proofs.Calling.{write-reach, read-reach, post-reach, land-reach, stop-reach, lose-reach}
 use Rattle.protocol.proofs.Fetched.{fetch-reach}
 use Rattle.protocol.proofs.Histories.{Alike, begin-alike, fetch-alike, next-alike, opens-open}
-use Rattle.protocol.proofs.Model as M
 use Rattle.protocol.proofs.OpenWrites.{opens}
 use Rattle.protocol.proofs.Register.{opened, ticks, first-state, first-trace, register}
 use Rattle.protocol.proofs.Simulation.{Come, Always, story, Reached, seen, pending, transit-of, DoingOk}
 use Rattle.protocol.proofs.Trace.{tick}
-use Rattle.protocol.proofs.View as views
 use Rattle.protocol.proofs.View.{View}
-use Rattle.protocol.proofs.Viewing.{view, Sized, Agree, begins, posts, lands, fetches, stops, loses, lines-of, line-here, activities-of, activity-here}
+use Rattle.protocol.proofs.Viewing.{view, Sized, Agree, begins, posts, lands, fetches, stops, loses, lines-of, line-here, activities-of}
 
 -- a number that is in range
 pub inside : (s m : ℕ) → outside s m ≡ false → (suc (s - 1) ≡ s) × (s - 1 < m)
@@ -60,8 +57,8 @@ module _ (m n : ℕ) (n0 : 0 < n) (small : m ≤ 65534) where
   }
 
   -- a step on sheets that is a step on views
-  made : (B : History) (f g : Answer → History) (z : State × Answer) (y : View × Answer) → Agree m n z y → Reached n m (y .0) (f (y .1)) → Alike (f (z .1)) (g (z .1)) → Sound (z .0) (g (z .1))
-  made B f g z y a r k =
+  made : (f g : Answer → History) (z : State × Answer) (y : View × Answer) → Agree m n z y → Reached n m (y .0) (f (y .1)) → Alike (f (z .1)) (g (z .1)) → Sound (z .0) (g (z .1))
+  made f g z y a r k =
       let q : Reached n m (view m n (z .0)) (f (z .1)) = subst₂ (λ V b. Reached n m V (f b)) (sym (a .same)) (sym (a .says)) r in
       record { sized = a .sized; come = q .come; alike = subst (λ B. Alike B (g (z .1))) (sym (q .is)) k }
 
@@ -70,13 +67,13 @@ module _ (m n : ℕ) (n0 : 0 < n) (small : m ≤ 65534) where
     w = h .come
 
     unchanged : (z : State × Answer) (y : View × Answer) → Agree m n z y → Reached n m (y .0) (story w) → Sound (z .0) H
-    unchanged z y a r = made (story w) (λ _. story w) (λ _. H) z y a r (h .alike)
+    unchanged z y a r = made (λ _. story w) (λ _. H) z y a r (h .alike)
 
     begun : (s : ℕ) (d : Doing) (z : State × Answer) (y : View × Answer) → suc (s - 1) ≡ s → Agree m n z y → Reached n m (y .0) (begin-noted (s - 1) d (y .1) (story w)) → Sound (z .0) (begin-noted s d (z .1) H)
-    begun s d z y e a r = made (story w) (λ b. begin-noted (s - 1) d b (story w)) (λ b. begin-noted s d b H) z y a r (subst (λ k. Alike (begin-noted (s - 1) d (z .1) (story w)) (begin-noted k d (z .1) H)) e (begin-alike (story w) H (h .alike) (s - 1) d (z .1)))
+    begun s d z y e a r = made (λ b. begin-noted (s - 1) d b (story w)) (λ b. begin-noted s d b H) z y a r (subst (λ k. Alike (begin-noted (s - 1) d (z .1) (story w)) (begin-noted k d (z .1) H)) e (begin-alike (story w) H (h .alike) (s - 1) d (z .1)))
 
     fetched : (s : ℕ) (z : State × Answer) (y : View × Answer) → suc (s - 1) ≡ s → Agree m n z y → Reached n m (y .0) (fetch-noted (s - 1) (y .1) (story w)) → Sound (z .0) (fetch-noted s (z .1) H)
-    fetched s z y e a r = made (story w) (λ b. fetch-noted (s - 1) b (story w)) (λ b. fetch-noted s b H) z y a r (subst (λ k. Alike (fetch-noted (s - 1) (z .1) (story w)) (fetch-noted k (z .1) H)) e (fetch-alike (story w) H (h .alike) (s - 1) (z .1)))
+    fetched s z y e a r = made (λ b. fetch-noted (s - 1) b (story w)) (λ b. fetch-noted s b H) z y a r (subst (λ k. Alike (fetch-noted (s - 1) (z .1) (story w)) (fetch-noted k (z .1) H)) e (fetch-alike (story w) H (h .alike) (s - 1) (z .1)))
 
     -- a number out of range is refused
     ranged : (P : State × Answer → Type 0) (s k e : ℕ) (z : State × Answer) → P (refuse C e) → (suc (s - 1) ≡ s → s - 1 < k → P z) → P (steps.check (outside s k) e C z)

@@ -1,14 +1,15 @@
 -- The protocol as the proof sees it: a seat's progress at each provider, and what is on the way.
 -- An answer moves a line as soon as it is given, and not only when it is fetched.
 use mathlib.Core.Bool.{Bool, true, false, cond}
-use mathlib.Core.List.{List, [], _∷_, _++_}
-use Prim.Native.Nat.{ℕ, max}
+use mathlib.Core.List.{List, [], _∷_, _++_, map}
+use Prim.Native.Nat.{ℕ}
 use lib.Dec.{eqb, ltb, leb}
 use Rattle.std.specs.declared.option.Option.{Option}
 use Rattle.std.specs.declared.option.Option.the-variants.{Some, None}
 use Rattle.stores.specs.Keyed.{find, put, without}
 use Rattle.stores.specs.Provider.{Cell, cell-key}
 use Rattle.protocol.specs.History.{update}
+use Rattle.protocol.specs.Moves.{largest-key, older-keys, mark-after}
 use Rattle.protocol.specs.Requests.{Request, list-keys, get-key, put-cell, remove-key}
 
 -- the bytes that a value is written as
@@ -55,13 +56,7 @@ pub record Tag : Type 0 where
 
 -- the largest key: a temporary one, or 0 if there is none
 abbrev pub top : List Cell → ℕ
-top [] = 0
-top (c ∷ m) = max (c .key) (top m)
-
--- the temporary keys but the largest, t
-abbrev pub lesser : ℕ → List Cell → List ℕ
-lesser t [] = []
-lesser t (c ∷ m) = cond (eqb (c .key) 0) (lesser t m) (cond (eqb (c .key) t) (lesser t m) (c .key ∷ lesser t m))
+top m = largest-key (map cell-key m)
 
 -- what a request does to the cells, and to the tags of their temporary keys, ordered by the last put
 abbrev pub carry : Request → List Cell → List Cell
@@ -100,7 +95,7 @@ ask-store v x (to-remove-largest big) = remove-key big
 ask-store v x stored = list-keys
 
 abbrev pub next-store : ℕ → List Cell → StoreProgress → StoreProgress
-next-store v m to-list = to-remove-all (lesser (top m) m) (top m)
+next-store v m to-list = to-remove-all (older-keys (map cell-key m)) (top m)
 next-store v m (to-remove k rest big) = to-remove-all rest big
 next-store v m (to-put-standing big) = cond (ltb big v) (to-put-own big) stored
 next-store v m (to-put-own big) = cond (eqb big 0) stored (to-remove-largest big)
@@ -115,7 +110,7 @@ ask-gather found-none = list-keys
 ask-gather (found v x) = list-keys
 
 abbrev pub listed-gather : ℕ → ℕ → GatherProgress
-listed-gather b k = cond (eqb b 0) found-none (to-get-largest b (cond (eqb k 0) b k))
+listed-gather b k = cond (eqb b 0) found-none (to-get-largest b (mark-after k b))
 
 abbrev pub got-largest : ℕ → Option Cell → GatherProgress
 got-largest k None = to-get-standing k

@@ -1,30 +1,30 @@
 -- what holds of one line
-use mathlib.Core.Path.{_≡_, refl, sym, ap, subst, _∙_}
+use mathlib.Core.Path.{_≡_, refl, sym, subst, _∙_}
 use mathlib.Core.Logic.{_≢_, _⊎_, inl, inr}
-use mathlib.Core.Bool.{Bool, true, false, cond}
-use mathlib.Core.List.{List, [], _∷_, _++_, map}
+use mathlib.Core.Bool.{true, false}
+use mathlib.Core.List.{List, [], _∷_, map}
 use Rattle.std.specs.declared.option.Option.{Option}
 use Rattle.std.specs.declared.option.Option.the-variants.{Some, None}
-use Prim.Native.Nat.{ℕ, zero, suc, _+_, _≤_, _<_, max}
+use Prim.Native.Nat.{ℕ, _≤_, _<_}
 use native.Mathlib.Omega.{arith}
 use lib.Dec.{eqb, ltb, leb}
-use lib.ListN.{length}
 use Rattle.std.specs.shelf.Lists.{All}
-use Rattle.std.proofs.shelf.Elements.{all-push, all-weaker}
-use Rattle.std.proofs.shelf.Tests.{cond-both, eqb-true, eqb-false, cases-eq, ltb-true, ltb-false, leb-true, leb-false, eq-eqb, ne-eqb, cond-true, cond-false}
+use Rattle.std.proofs.shelf.Elements.{all-weaker}
+use Rattle.std.proofs.shelf.Tests.{cond-both, eqb-true, eqb-false, ltb-true, ltb-false, leb-true, eq-eqb, ne-eqb, cond-true, cond-false}
 use Rattle.stores.specs.Keyed.{find, put, without}
 use Rattle.stores.specs.Provider.{Cell, cell-key}
 use Rattle.protocol.specs.Law.{Each-two}
 use Rattle.protocol.specs.Requests.{Request, list-keys, get-key, put-cell, remove-key}
 use Rattle.protocol.specs.History.{update}
-use Rattle.protocol.proofs.Model.{Code, cell-of, top, lesser, Tag, untag, put-tag, carry, retag}
+use Rattle.protocol.specs.Moves.{older-keys}
+use Rattle.protocol.proofs.Model.{Code, cell-of, top, Tag, untag, put-tag, carry, retag}
 use Rattle.protocol.proofs.Model.{StoreProgress, to-list, to-remove, to-put-standing, to-put-own, to-remove-largest, stored, GatherProgress, to-list-again, to-get-largest, to-get-standing, found-none, found, ModelSeat, idle, stopped, listing, gathering, storing, Transit, free, sent, returned}
-use Rattle.protocol.proofs.Model.{to-remove-all, ask-store, next-store, ask-gather, listed-gather, got-largest, got-standing, next-gather, ask, next, list-done, listed-once}
+use Rattle.protocol.proofs.Model.{to-remove-all, ask-store, next-store, ask-gather, got-largest, got-standing, next-gather, ask, next, list-done, listed-once}
 use Rattle.protocol.proofs.ModelSteps.{stale, Active}
 use Rattle.protocol.proofs.Lists.{In}
-use Rattle.protocol.proofs.Tags.{Others, Tail, Own, own-removed, own-tail, untag-pairs}
-use Rattle.protocol.proofs.Cells.{top-insert, top-erase, all-get, Got, lesser-below, in-lesser, all-below-top, tagged}
-use Rattle.protocol.proofs.Providers.{ProviderOk, RequestOk, Keeps, grows}
+use Rattle.protocol.proofs.Tags.{Tail, Own, own-removed, own-tail, untag-pairs}
+use Rattle.protocol.proofs.Cells.{top-insert, top-erase, all-get, Got, all-below, but-below, in-but}
+use Rattle.protocol.proofs.Providers.{ProviderOk, RequestOk, Keeps}
 
 pub update-same : {X : Type 0} (f : ℕ → X) (i : ℕ) (x : X) → update f i x i ≡ x
 update-same f i x = cond-true (eqb i i) x (f i) (eq-eqb i i refl)
@@ -52,12 +52,12 @@ ListOk f None = Unit {0}
 ListOk f (Some k) = f ≤ k
 
 module _ (g : ℕ → Option Code) (s : ℕ) where
-  abbrev pub ProgOk : ℕ → List Tag → ℕ → ℕ → ModelSeat → Type 0
-  ProgOk t E f i idle = Unit {0}
-  ProgOk t E f i stopped = Unit {0}
-  ProgOk t E f i (listing x p) = ListOk f (p i)
-  ProgOk t E f i (gathering b p) = GatherOk g f (p i)
-  ProgOk t E f i (storing b v x p) = StoreOk s v t E (p i)
+  abbrev pub ProgressOk : ℕ → List Tag → ℕ → ℕ → ModelSeat → Type 0
+  ProgressOk t E f i idle = Unit {0}
+  ProgressOk t E f i stopped = Unit {0}
+  ProgressOk t E f i (listing x p) = ListOk f (p i)
+  ProgressOk t E f i (gathering b p) = GatherOk g f (p i)
+  ProgressOk t E f i (storing b v x p) = StoreOk s v t E (p i)
 
   -- a seat that stores has a version and value that were given
   abbrev pub SeatOk : ModelSeat → Type 0
@@ -107,23 +107,23 @@ module _ (g : ℕ → Option Code) (s : ℕ) where
   store-frame v t u E F (to-remove-largest big) l k h = (h .0, omega arith)
   store-frame v t u E F stored l k h = omega arith
 
-  pub prog-frame : (t u : ℕ) (E F : List Tag) (f i : ℕ) (q : ModelSeat) → t ≤ u → Keeps s E F → ProgOk t E f i q → ProgOk u F f i q
-  prog-frame t u E F f i idle l k h = tt
-  prog-frame t u E F f i stopped l k h = tt
-  prog-frame t u E F f i (listing x p) l k h = h
-  prog-frame t u E F f i (gathering b p) l k h = h
-  prog-frame t u E F f i (storing b v x p) l k h = store-frame v t u E F (p i) l k h
+  pub progress-frame : (t u : ℕ) (E F : List Tag) (f i : ℕ) (q : ModelSeat) → t ≤ u → Keeps s E F → ProgressOk t E f i q → ProgressOk u F f i q
+  progress-frame t u E F f i idle l k h = tt
+  progress-frame t u E F f i stopped l k h = tt
+  progress-frame t u E F f i (listing x p) l k h = h
+  progress-frame t u E F f i (gathering b p) l k h = h
+  progress-frame t u E F f i (storing b v x p) l k h = store-frame v t u E F (p i) l k h
 
-  req-frame : (t u : ℕ) (E F : List Tag) (r : Request) → t ≤ u → Keeps s E F → RequestOk g s t E r → RequestOk g s u F r
-  req-frame t u E F list-keys l k h = tt
-  req-frame t u E F (get-key x) l k h = tt
-  req-frame t u E F (put-cell c) l k h = (h .0, elim (h .1) [ inl z ↦ inl z | inr q ↦ inr (q .0, k .tail (q .1)) ])
-  req-frame t u E F (remove-key x) l k h = omega arith
+  request-frame : (t u : ℕ) (E F : List Tag) (r : Request) → t ≤ u → Keeps s E F → RequestOk g s t E r → RequestOk g s u F r
+  request-frame t u E F list-keys l k h = tt
+  request-frame t u E F (get-key x) l k h = tt
+  request-frame t u E F (put-cell c) l k h = (h .0, elim (h .1) [ inl z ↦ inl z | inr q ↦ inr (q .0, k .tail (q .1)) ])
+  request-frame t u E F (remove-key x) l k h = omega arith
 
   pub transit-frame : (t u : ℕ) (E F : List Tag) (i : ℕ) (q : ModelSeat) (w : Transit) → t ≤ u → Keeps s E F → TransitOk t E i q w → TransitOk u F i q w
   transit-frame t u E F i q free l k h = tt
-  transit-frame t u E F i q (sent true r) l k h = (req-frame t u E F r l k (h .0), h .1)
-  transit-frame t u E F i q (sent false r) l k h = (req-frame t u E F r l k (h .0), h .1)
+  transit-frame t u E F i q (sent true r) l k h = (request-frame t u E F r l k (h .0), h .1)
+  transit-frame t u E F i q (sent false r) l k h = (request-frame t u E F r l k (h .0), h .1)
   transit-frame t u E F i q (returned true) l k h = h
   transit-frame t u E F i q (returned false) l k h = h
 
@@ -139,8 +139,8 @@ module _ (g : ℕ → Option Code) (s : ℕ) where
 
     pub store-land : (v : ℕ) (x : Code) (p : StoreProgress) → RequestOk g s (top m) E (ask-store v x p) → StoreOk s v (top m) E p → StoreOk s v (top (carry (ask-store v x p) m)) (retag s (ask-store v x p) E) (next-store v m p)
     store-land v x to-list r h =
-        clear-ok v (top m) E (lesser (top m) m) (top m) (omega arith) (ok .apart) (lesser-below (top m) m (all-below-top m))
-        (own-all (top m ∷ lesser (top m) m) E (all-weaker _ _ (λ e q. in-lesser (top m) m (e .key) (q .0) (q .1)) E (ok .held)))
+        clear-ok v (top m) E (older-keys (map cell-key m)) (top m) (omega arith) (ok .apart) (but-below (top m) (map cell-key m) (all-below (map cell-key m)))
+        (own-all (top m ∷ older-keys (map cell-key m)) E (all-weaker _ _ (λ e q. in-but (top m) (map cell-key m) (e .key) (q .0) (q .1)) E (ok .held)))
     store-land v x (to-remove k rest big) r h = clear-ok v (top (without cell-key k m)) (untag k E) rest big (omega (arith, top-erase k m r, h .0)) (untag-pairs _ k E (ok .apart)) (h .1 .1) (own-removed s big k rest E (h .2))
     store-land v x (to-put-standing big) r h =
         let c : Cell = cell-of 0 v x in
@@ -180,19 +180,19 @@ module _ (g : ℕ → Option Code) (s : ℕ) where
     once-done (Some k) = refl
 
     -- the line's own answer
-    pub prog-land : (f i : ℕ) (r : Request) (q : ModelSeat) → f ≤ top m → RequestOk g s (top m) E r → Asked i r q → ProgOk (top m) E f i q → ProgOk (top (carry r m)) (retag s r E) f i (next q i m)
-    prog-land f i r idle l o a h = tt
-    prog-land f i r stopped l o a h = tt
-    prog-land f i r (listing x p) l o a h = rw (update-same p i (listed-once (p i) (top m))) (once-ok f (p i) l h)
-    prog-land f i r (gathering b p) l o a h = rw (update-same p i (next-gather m (p i))) (gather-land f (p i) l h)
-    prog-land f i r (storing b v x p) l o a h = rw (update-same p i (next-store v m (p i)), a) (store-land v x (p i) (rw a at o) h)
+    pub progress-land : (f i : ℕ) (r : Request) (q : ModelSeat) → f ≤ top m → RequestOk g s (top m) E r → Asked i r q → ProgressOk (top m) E f i q → ProgressOk (top (carry r m)) (retag s r E) f i (next q i m)
+    progress-land f i r idle l o a h = tt
+    progress-land f i r stopped l o a h = tt
+    progress-land f i r (listing x p) l o a h = rw (update-same p i (listed-once (p i) (top m))) (once-ok f (p i) l h)
+    progress-land f i r (gathering b p) l o a h = rw (update-same p i (next-gather m (p i))) (gather-land f (p i) l h)
+    progress-land f i r (storing b v x p) l o a h = rw (update-same p i (next-store v m (p i)), a) (store-land v x (p i) (rw a at o) h)
 
-    pub prog-else : (t : ℕ) (F : List Tag) (f i j : ℕ) (q : ModelSeat) → i ≢ j → ProgOk t F f j q → ProgOk t F f j (next q i m)
-    prog-else t F f i j idle d h = tt
-    prog-else t F f i j stopped d h = tt
-    prog-else t F f i j (listing x p) d h = rw (update-other p i j (listed-once (p i) (top m)) d) h
-    prog-else t F f i j (gathering b p) d h = rw (update-other p i j (next-gather m (p i)) d) h
-    prog-else t F f i j (storing b v x p) d h = rw (update-other p i j (next-store v m (p i)) d) h
+    pub progress-else : (t : ℕ) (F : List Tag) (f i j : ℕ) (q : ModelSeat) → i ≢ j → ProgressOk t F f j q → ProgressOk t F f j (next q i m)
+    progress-else t F f i j idle d h = tt
+    progress-else t F f i j stopped d h = tt
+    progress-else t F f i j (listing x p) d h = rw (update-other p i j (listed-once (p i) (top m)) d) h
+    progress-else t F f i j (gathering b p) d h = rw (update-other p i j (next-gather m (p i)) d) h
+    progress-else t F f i j (storing b v x p) d h = rw (update-other p i j (next-store v m (p i)) d) h
 
     pub asked-else : (i j : ℕ) (r : Request) (q : ModelSeat) → i ≢ j → Asked j r q → Asked j r (next q i m)
     asked-else i j r idle d h = h
@@ -222,15 +222,15 @@ module _ (g : ℕ → Option Code) (s : ℕ) where
     heard-here i (gathering b p) = tt
     heard-here i (storing b v x p) = tt
 
-  pub blank-prog : (t : ℕ) (E : List Tag) (f i : ℕ) (q : ModelSeat) → Blank i q → ProgOk t E f i q
-  blank-prog t E f i idle h = tt
-  blank-prog t E f i stopped h = tt
-  blank-prog t E f i (listing x p) h = subst (ListOk f) (sym h) tt
-  blank-prog t E f i (gathering b p) h = subst (GatherOk g f) (sym h) (λ n. absurd (n refl))
-  blank-prog t E f i (storing b v x p) h = subst (StoreOk s v t E) (sym h) tt
+  pub blank-progress : (t : ℕ) (E : List Tag) (f i : ℕ) (q : ModelSeat) → Blank i q → ProgressOk t E f i q
+  blank-progress t E f i idle h = tt
+  blank-progress t E f i stopped h = tt
+  blank-progress t E f i (listing x p) h = subst (ListOk f) (sym h) tt
+  blank-progress t E f i (gathering b p) h = subst (GatherOk g f) (sym h) (λ n. absurd (n refl))
+  blank-progress t E f i (storing b v x p) h = subst (StoreOk s v t E) (sym h) tt
 
   -- the request that post gives a line that is not done
-  pub post-ok : (t : ℕ) (E : List Tag) (f i : ℕ) (q : ModelSeat) → SeatOk q → ProgOk t E f i q → RequestOk g s t E (ask q i)
+  pub post-ok : (t : ℕ) (E : List Tag) (f i : ℕ) (q : ModelSeat) → SeatOk q → ProgressOk t E f i q → RequestOk g s t E (ask q i)
   post-ok t E f i idle k h = tt
   post-ok t E f i stopped k h = tt
   post-ok t E f i (listing x p) k h = tt
@@ -261,11 +261,11 @@ module _ (g : ℕ → Option Code) (s : ℕ) where
 
 -- more versions are given
 module _ (g k : ℕ → Option Code) (more : (v : ℕ) (x : Code) → g v ≡ Some x → k v ≡ Some x) where
-  more-req : (s t : ℕ) (E : List Tag) (r : Request) → RequestOk g s t E r → RequestOk k s t E r
-  more-req s t E list-keys h = tt
-  more-req s t E (get-key z) h = tt
-  more-req s t E (put-cell c) h = (more (c .pair .version) (c .pair .value) (h .0), h .1)
-  more-req s t E (remove-key z) h = h
+  more-request : (s t : ℕ) (E : List Tag) (r : Request) → RequestOk g s t E r → RequestOk k s t E r
+  more-request s t E list-keys h = tt
+  more-request s t E (get-key z) h = tt
+  more-request s t E (put-cell c) h = (more (c .pair .version) (c .pair .value) (h .0), h .1)
+  more-request s t E (remove-key z) h = h
 
   pub more-gather : (f : ℕ) (p : GatherProgress) → GatherOk g f p → GatherOk k f p
   more-gather f (to-list-again z) h = h
@@ -274,16 +274,16 @@ module _ (g k : ℕ → Option Code) (more : (v : ℕ) (x : Code) → g v ≡ So
   more-gather f found-none h = h
   more-gather f (found v x) h = (h .0, more v x (h .1))
 
-  pub more-prog : (s t : ℕ) (E : List Tag) (f i : ℕ) (q : ModelSeat) → ProgOk g s t E f i q → ProgOk k s t E f i q
-  more-prog s t E f i idle h = tt
-  more-prog s t E f i stopped h = tt
-  more-prog s t E f i (listing x p) h = h
-  more-prog s t E f i (gathering b p) h = more-gather f (p i) h
-  more-prog s t E f i (storing b v x p) h = h
+  pub more-progress : (s t : ℕ) (E : List Tag) (f i : ℕ) (q : ModelSeat) → ProgressOk g s t E f i q → ProgressOk k s t E f i q
+  more-progress s t E f i idle h = tt
+  more-progress s t E f i stopped h = tt
+  more-progress s t E f i (listing x p) h = h
+  more-progress s t E f i (gathering b p) h = more-gather f (p i) h
+  more-progress s t E f i (storing b v x p) h = h
 
   pub more-transit : (s t : ℕ) (E : List Tag) (i : ℕ) (q : ModelSeat) (w : Transit) → TransitOk g s t E i q w → TransitOk k s t E i q w
   more-transit s t E i q free h = tt
-  more-transit s t E i q (sent true r) h = (more-req s t E r (h .0), more-blank q (h .1))
+  more-transit s t E i q (sent true r) h = (more-request s t E r (h .0), more-blank q (h .1))
     where
       more-blank : (q : ModelSeat) → Blank g s i q → Blank k s i q
       more-blank idle h = h
@@ -291,7 +291,7 @@ module _ (g k : ℕ → Option Code) (more : (v : ℕ) (x : Code) → g v ≡ So
       more-blank (listing x p) h = h
       more-blank (gathering b p) h = h
       more-blank (storing b v x p) h = h
-  more-transit s t E i q (sent false r) h = (more-req s t E r (h .0), more-asked q (h .1))
+  more-transit s t E i q (sent false r) h = (more-request s t E r (h .0), more-asked q (h .1))
     where
       more-asked : (q : ModelSeat) → Asked g s i r q → Asked k s i r q
       more-asked idle h = h
@@ -329,6 +329,6 @@ module _ (g k : ℕ → Option Code) (more : (v : ℕ) (x : Code) → g v ≡ So
   -- the seat's phase is a new one
   pub stale-transit : (s t : ℕ) (E : List Tag) (i : ℕ) (q u : ModelSeat) (w : Transit) → Blank k s i u → TransitOk g s t E i q w → TransitOk k s t E i u (stale w)
   stale-transit s t E i q u free b h = tt
-  stale-transit s t E i q u (sent true r) b h = (more-req s t E r (h .0), b)
-  stale-transit s t E i q u (sent false r) b h = (more-req s t E r (h .0), b)
+  stale-transit s t E i q u (sent true r) b h = (more-request s t E r (h .0), b)
+  stale-transit s t E i q u (sent false r) b h = (more-request s t E r (h .0), b)
   stale-transit s t E i q u (returned c) b h = b

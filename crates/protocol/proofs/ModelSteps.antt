@@ -1,17 +1,16 @@
 -- the whole state, with what the proof keeps beside it, and the steps
 use mathlib.Core.Path.{_≡_}
 use mathlib.Core.Logic.{_≢_}
-use mathlib.Core.Bool.{Bool, true, false, cond, _&&_, not}
-use mathlib.Core.List.{List, [], _∷_, _++_}
+use mathlib.Core.Bool.{Bool, true, false, cond, _&&_}
+use mathlib.Core.List.{List}
 use Rattle.std.specs.declared.option.Option.{Option}
 use Rattle.std.specs.declared.option.Option.the-variants.{Some, None}
-use Prim.Native.Nat.{ℕ, zero, suc, _+_, _-_, _*_, _/_, _%_, _≤_, _<_, max}
-use lib.Dec.{eqb, ltb, leb}
-use Rattle.stores.specs.Keyed.{find, put, without}
-use Rattle.stores.specs.Provider.{Cell, cell-key}
-use Rattle.protocol.specs.Requests.{Request, list-keys, get-key, put-cell, remove-key}
+use Prim.Native.Nat.{ℕ, suc, _-_, _%_, _≤_, _<_, max}
+use lib.Dec.{eqb}
+use Rattle.stores.specs.Provider.{Cell}
+use Rattle.protocol.specs.Requests.{Request}
 use Rattle.protocol.specs.History.{update}
-use Rattle.protocol.specs.Phases.{count, most, next-version}
+use Rattle.protocol.specs.Phases.{majority, count, most, next-version}
 use Rattle.protocol.proofs.Model.{Code, top, Tag, carry, retag, ModelSeat, idle, stopped, listing, gathering, storing, GatherProgress, to-list-again, to-get-largest, to-get-standing, found-none, found, StoreProgress, to-list, Transit, free, sent, returned, ask, next, list-done, gather-done, store-done}
 
 -- a provider: its map, and who put each temporary key, by the last put
@@ -138,7 +137,7 @@ blank-store i = to-list
 abbrev pub owner : ℕ → ℕ
 owner v = v % 65536 - 1
 
--- one step of n providers; a press is one or two of them, or none
+-- one step of n providers; a call is one or two of them, or none
 pub data Step (n seats : ℕ) (st : ModelState) : ModelState → Type 0 where
   posts : (s i : ℕ) → s < seats → Active (st .seat s) → Step n seats st (post st s i)
   lands : (s i : ℕ) (b : Bool) (r : Request) → s < seats → st .transit s i ≡ sent b r → Step n seats st (land st s i b r)
@@ -146,13 +145,13 @@ pub data Step (n seats : ℕ) (st : ModelState) : ModelState → Type 0 where
   begins-write : (s : ℕ) (x : Code) → s < seats → st .seat s ≡ idle → Step n seats st (begin st s (listing x blank-list))
   begins-read : (s : ℕ) (b : Bool) → s < seats → st .seat s ≡ idle → Step n seats st (begin st s (gathering b blank-gather))
   stops : (s : ℕ) → Step n seats st (stop st s)
-  gives : (s : ℕ) (x : Code) (p : ℕ → Option ℕ) → s < seats → st .seat s ≡ listing x p → n / 2 + 1 ≤ count (λ i. is-free (st .transit s i) && list-done (p i)) n →
+  gives : (s : ℕ) (x : Code) (p : ℕ → Option ℕ) → s < seats → st .seat s ≡ listing x p → majority n ≤ count (λ i. is-free (st .transit s i) && list-done (p i)) n →
       Step n seats st (give st s (storing true (next-version (most (listed st s p) n) (suc s)) x blank-store) (next-version (most (listed st s p) n) (suc s)) x)
   uses-up : (s : ℕ) (x : Code) (p : ℕ → Option ℕ) → st .seat s ≡ listing x p → Step n seats st (go-on st s idle)
-  finds : (s j : ℕ) (p : ℕ → GatherProgress) (v : ℕ) (x : Code) → s < seats → st .seat s ≡ gathering true p → n / 2 + 1 ≤ count (λ i. is-free (st .transit s i) && gather-done (p i)) n →
+  finds : (s j : ℕ) (p : ℕ → GatherProgress) (v : ℕ) (x : Code) → s < seats → st .seat s ≡ gathering true p → majority n ≤ count (λ i. is-free (st .transit s i) && gather-done (p i)) n →
       p j ≡ found v x → v ≡ most (found-at st s p) n → v ≢ 0 → Step n seats st (go-on st s (storing false v x blank-store))
-  reads : (s j : ℕ) (p : ℕ → GatherProgress) (v : ℕ) (x : Code) → s < seats → st .seat s ≡ gathering false p → n / 2 + 1 ≤ count (λ i. is-free (st .transit s i) && gather-done (p i)) n →
+  reads : (s j : ℕ) (p : ℕ → GatherProgress) (v : ℕ) (x : Code) → s < seats → st .seat s ≡ gathering false p → majority n ≤ count (λ i. is-free (st .transit s i) && gather-done (p i)) n →
       p j ≡ found v x → v ≡ most (found-at st s p) n → v ≢ 0 → Step n seats st (go-on st s idle)
-  reads-none : (s : ℕ) (b : Bool) (p : ℕ → GatherProgress) → s < seats → st .seat s ≡ gathering b p → n / 2 + 1 ≤ count (λ i. is-free (st .transit s i) && gather-done (p i)) n →
+  reads-none : (s : ℕ) (b : Bool) (p : ℕ → GatherProgress) → s < seats → st .seat s ≡ gathering b p → majority n ≤ count (λ i. is-free (st .transit s i) && gather-done (p i)) n →
       0 ≡ most (found-at st s p) n → Step n seats st (go-on st s idle)
-  ends : (s : ℕ) (b : Bool) (v : ℕ) (x : Code) (p : ℕ → StoreProgress) → s < seats → st .seat s ≡ storing b v x p → n / 2 + 1 ≤ count (λ i. is-free (st .transit s i) && store-done (p i)) n → Step n seats st (finish st s v)
+  ends : (s : ℕ) (b : Bool) (v : ℕ) (x : Code) (p : ℕ → StoreProgress) → s < seats → st .seat s ≡ storing b v x p → majority n ≤ count (λ i. is-free (st .transit s i) && store-done (p i)) n → Step n seats st (finish st s v)

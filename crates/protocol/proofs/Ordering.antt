@@ -1,25 +1,24 @@
 -- the order of the operations
-use mathlib.Core.Path.{_≡_, refl, sym, ap, subst, subst₂, _∙_}
+use mathlib.Core.Path.{_≡_, refl, sym, ap, subst, _∙_}
 use mathlib.Core.Logic.{_≢_, _⊎_, inl, inr}
-use mathlib.Core.Bool.{Bool, true, false, cond, _&&_}
-use mathlib.Core.List.{List, [], _∷_, _++_, map}
+use mathlib.Core.Bool.{Bool, true, false, _&&_}
+use mathlib.Core.List.{List, [], _∷_}
 use Rattle.std.specs.declared.option.Option.{Option}
 use Rattle.std.specs.declared.option.Option.the-variants.{Some, None}
-use Prim.Native.Nat.{ℕ, zero, suc, _+_, _*_, _/_, _%_, _≤_, _<_, max}
+use Prim.Native.Nat.{ℕ, suc, _≤_, _<_, max}
 use native.Mathlib.Omega.{arith}
-use native.Mathlib.Nat.{le-trans}
-use lib.Dec.{eqb, ltb, leb}
+use lib.Dec.{eqb, ltb}
 use Rattle.std.specs.shelf.Lists.{All}
 use Rattle.std.proofs.shelf.Elements.{all-weaker}
-use Rattle.std.proofs.shelf.Tests.{cond-both, cond-true, eqb-true, eqb-false, ltb-true, ltb-false, cases-eq, cases-lt, leb-true, le-leb, and-parts, false≢true}
+use Rattle.std.proofs.shelf.Tests.{cond-both, eqb-true, ltb-true, ltb-false, cases-eq, cases-lt, and-parts, false≢true}
 use Rattle.protocol.specs.History.{update, Operation}
-use Rattle.protocol.specs.Phases.{count, most, next-version}
-use Rattle.protocol.proofs.Model.{Code, top, GatherProgress, ModelSeat, idle, stopped, listing, gathering, storing, found}
+use Rattle.protocol.specs.Phases.{most, next-version}
+use Rattle.protocol.proofs.Model.{Code, top, GatherProgress, gathering, storing, found}
 use Rattle.protocol.proofs.ModelSteps.{ModelState, Step, listed, posts, lands, fetches, begins-write, begins-read, stops, gives, uses-up, finds, reads, reads-none, ends}
 use Rattle.protocol.proofs.Trace.{Trace, insert-ordered, end-write, end-writes, begun-trace, placed, read-plain, ended-trace, tick, trace-step}
 use Rattle.protocol.specs.Law.{Any, Each-two}
 use Rattle.protocol.proofs.Lists.{all-and}
-use Rattle.protocol.proofs.ModelLines.{update-same, update-other, GatherOk, ProgOk, SeatOk}
+use Rattle.protocol.proofs.ModelLines.{update-same, update-other, GatherOk, ProgressOk, SeatOk}
 use Rattle.protocol.proofs.Invariant.{Invariant, Rank, at1, at3, fresh-new, reach-find, reach-list}
 
 pub any-weaker : {X : Type 0} (P Q : X → Type 0) → ((x : X) → P x → Q x) → (l : List X) → Any P l → Any Q l
@@ -191,7 +190,7 @@ module _ (g : ℕ → Option Code) (highest : ℕ) (low : ℕ → ℕ) (L : Trac
 module _ (n seats : ℕ) (few-keys-held : seats ≤ 65534) (st : ModelState) (inv : Invariant n seats st) (L : Trace) (h : TraceInv (st .given) (st .highest) (st .low) L) where
   found-given : (s j : ℕ) (b : Bool) (p : ℕ → GatherProgress) (v : ℕ) (x : Code) → st .seat s ≡ gathering b p → p j ≡ found v x → st .given v ≡ Some x
   found-given s j b p v x e a =
-      let h : GatherOk (st .given) (st .floor s j) (p j) = subst (ProgOk (st .given) s (top (st .provider j .cells)) (st .provider j .tags) (st .floor s j) j) e (inv .lines s j .prog) in
+      let h : GatherOk (st .given) (st .floor s j) (p j) = subst (ProgressOk (st .given) s (top (st .provider j .cells)) (st .provider j .tags) (st .floor s j) j) e (inv .lines s j .progress) in
       let f : GatherOk (st .given) (st .floor s j) (found v x) = subst (GatherOk (st .given) (st .floor s j)) a h in f .1
 
   pub trace-step-inv : (su : ModelState) (d : Step n seats st su) → TraceInv (su .given) (su .highest) (su .low) (trace-step n seats st su d L)

@@ -1,24 +1,22 @@
 -- what holds of one provider, and that a request that may be sent keeps it
-use mathlib.Core.Path.{_≡_, refl, sym, ap, subst, _∙_}
+use mathlib.Core.Path.{_≡_, refl}
 use mathlib.Core.Logic.{_≢_, _⊎_, inl, inr}
-use mathlib.Core.Bool.{Bool, true, false, cond}
 use mathlib.Core.List.{List, [], _∷_, _++_, map}
 use Rattle.std.specs.declared.option.Option.{Option}
-use Rattle.std.specs.declared.option.Option.the-variants.{Some, None}
-use Prim.Native.Nat.{ℕ, zero, suc, _+_, _≤_, _<_, max}
+use Rattle.std.specs.declared.option.Option.the-variants.{Some}
+use Prim.Native.Nat.{ℕ, _+_, _≤_, _<_}
 use native.Mathlib.Omega.{arith}
-use lib.Dec.{eqb, ltb}
+use lib.Dec.{eqb}
 use lib.ListN.{length}
 use Rattle.std.specs.shelf.Lists.{All}
 use Rattle.std.proofs.shelf.Elements.{all-push, all-weaker}
 use Rattle.std.proofs.shelf.Tests.{cond-both, eqb-true, eqb-false, cases-eq}
-use Rattle.stores.specs.Keyed.{find, put, without}
+use Rattle.stores.specs.Keyed.{put, without}
 use Rattle.stores.specs.Provider.{Cell, cell-key}
-use Rattle.protocol.specs.Law.{Each-two}
 use Rattle.protocol.specs.Requests.{Request, list-keys, get-key, put-cell, remove-key}
-use Rattle.protocol.proofs.Model.{Code, top, lesser, Tag, untag, put-tag, carry, retag}
+use Rattle.protocol.proofs.Model.{Code, top, Tag, untag, put-tag, carry, retag}
 use Rattle.protocol.proofs.Lists.{In, all-and}
-use Rattle.protocol.proofs.Tags.{Others, Tail, Own, Spread, Apart, untag-all, untag-pairs, untag-gone, own-untag, own-push, tail-untag, tail-push, spread-untag, spread-push, apart-push, few-tags}
+use Rattle.protocol.proofs.Tags.{Tail, Own, Spread, Apart, untag-all, untag-pairs, untag-gone, own-untag, own-push, tail-untag, tail-push, spread-untag, spread-push, apart-push, few-tags}
 use Rattle.protocol.proofs.Cells.{Rising, all-insert, all-erase, rising-insert, rising-erase, top-insert, top-erase, in-insert-new, in-insert-old, in-erase, erase-gone, tagged, tagged-untag, tagged-push, few-keys, length-tagged}
 
 pub record ProviderOk (seats : ℕ) (g : ℕ → Option Code) (m : List Cell) (E : List Tag) : Type 0 where
@@ -40,7 +38,7 @@ RequestOk g s t E (remove-key k) = k < t
 pub few-keys-held : {seats : ℕ} {g : ℕ → Option Code} {m : List Cell} {E : List Tag} → ProviderOk seats g m E → length m ≤ seats + 2
 few-keys-held {seats = k} {m = m} {E = E} h = omega (arith, few-keys m (tagged E) (h .rising) (h .keyed), length-tagged E, few-tags k E (h .known) (h .spread))
 
--- a press at another seat's line
+-- a request at another seat's line
 pub record Keeps (s : ℕ) (E F : List Tag) : Type 0 where
   pub own : (l : List ℕ) → Own s l E → Own s l F
   pub tail : Tail s E → Tail s F

@@ -1,17 +1,16 @@
 -- What a seat's lines that are done come to, in the records and in the model.
-use mathlib.Core.Path.{_≡_, refl, sym, ap, ap₂, subst, _∙_, fun-ext}
-use mathlib.Core.Logic.{_≢_}
+use mathlib.Core.Path.{_≡_, refl, sym, ap, subst, _∙_, fun-ext}
 use mathlib.Core.Bool.{Bool, true, false, cond, _&&_}
 use Prim.Native.Nat.{ℕ, zero, suc, _≤_, _<_, max}
 use native.Mathlib.Omega.{arith}
 use native.Mathlib.Nat.{le-trans}
-use lib.Dec.{eqb, ltb}
+use lib.Dec.{ltb}
 use Rattle.std.specs.declared.option.Option.{Option}
 use Rattle.std.specs.declared.option.Option.the-variants.{Some, None}
 use Rattle.std.proofs.shelf.Tests.{cond-both, ltb-true, ltb-false}
 use Rattle.stores.specs.Provider.{Pair}
 use Rattle.protocol.specs.Lines.{LineState, free, sent, answered, is-free, Progress, Line}
-use Rattle.protocol.specs.Phases.{count, most, majority, counts, done-lines, listed-on, found-on, version-in, newer, newest-found}
+use Rattle.protocol.specs.Phases.{count, most, majority, done-lines, listed-on, found-on, version-in, newest-found}
 use Rattle.protocol.specs.Seats.{Activity}
 use Rattle.protocol.specs.declared.stage.Stage.{Stage}
 use Rattle.protocol.specs.declared.stage.Stage.the-variants as at

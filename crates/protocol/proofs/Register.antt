@@ -1,10 +1,10 @@
 -- Every run of the model is a correct register.
-use mathlib.Core.Path.{_≡_, refl, sym, ap, subst, _∙_}
-use mathlib.Core.Logic.{_≢_, _⊎_, inl, inr}
+use mathlib.Core.Path.{_≡_, refl, sym, ap, _∙_}
+use mathlib.Core.Logic.{_⊎_, inl, inr}
 use mathlib.Core.Bool.{Bool, true, false, cond}
 use mathlib.Core.List.{List, [], _∷_}
 use Rattle.std.specs.declared.option.Option.{Option}
-use Rattle.std.specs.declared.option.Option.the-variants.{Some, None}
+use Rattle.std.specs.declared.option.Option.the-variants.{None}
 use Prim.Native.Nat.{ℕ, zero, suc, _+_, _≤_, _<_}
 use native.Mathlib.Omega.{arith}
 use lib.ListN.{length}
@@ -12,7 +12,7 @@ use Rattle.std.specs.shelf.Lists.{All}
 use Rattle.std.proofs.shelf.Elements.{all-weaker}
 use Rattle.std.proofs.shelf.Tests.{both-ways}
 use Rattle.protocol.specs.History.{Operation}
-use Rattle.protocol.specs.Law.{Each-two, Any, EndedBefore, Rises, InTime, Shows, ShowsSome, NotOld, NoneBefore}
+use Rattle.protocol.specs.Law.{Each-two, Any, Rises, InTime, Shows, ShowsSome, NotOld, NoneBefore}
 use Rattle.protocol.specs.Phases.{count}
 use Rattle.protocol.proofs.Lists.{all-and, none-some}
 use Rattle.protocol.proofs.Model.{Code, idle, free}
@@ -85,7 +85,7 @@ all-true (suc n) = ap suc (all-true n)
 first-inv : (n seats : ℕ) → 0 < n → Invariant n seats first-state
 first-inv n seats n0 = record {
   providers = λ i. record { rising = tt; paired = tt; keyed = tt; held = tt; apart = tt; spread = tt; known = tt };
-  lines = λ s i. record { above = omega arith; prog = tt; transit = tt };
+  lines = λ s i. record { above = omega arith; progress = tt; transit = tt };
   activities = λ s. tt;
   ranks = λ s. omega arith;
   lows = λ s. omega arith;

@@ -1,16 +1,15 @@
 -- A sheet of lines as a function of seat and provider.
-use mathlib.Core.Path.{_≡_, refl, sym, ap, ap₂, subst, _∙_, fun-ext}
-use mathlib.Core.Logic.{_≢_, _⊎_, inl, inr}
+use mathlib.Core.Path.{_≡_, refl, sym, ap, ap₂, subst, _∙_}
+use mathlib.Core.Logic.{_≢_}
 use mathlib.Core.Bool.{Bool, true, false, cond, _&&_}
-use mathlib.Core.List.{List, [], _∷_}
-use Prim.Native.Nat.{ℕ, zero, suc, _+_, _*_, _/_, _%_, _≤_, _<_}
+use mathlib.Core.List.{List}
+use Prim.Native.Nat.{ℕ, _+_, _*_, _/_, _%_, _≤_, _<_}
 use native.Mathlib.Omega.{arith}
 use lib.Arith.{digits-lt, digits-div, digits-mod}
 use lib.Dec.{eqb, ltb}
 use lib.ListN.{length, getD, set}
 use lib.Seq.{getD-set-same, getD-set-other}
-use Rattle.std.proofs.shelf.Tests.{cond-both, cond-true, cond-false, cases-eq, eqb-true, eqb-false, eq-eqb, ne-eqb, ltb-true, lt-ltb, and-parts, and-from, true≢false}
-use Rattle.protocol.specs.History.{update}
+use Rattle.std.proofs.shelf.Tests.{eqb-true, eqb-false, ltb-true, lt-ltb, and-parts, and-from, true≢false}
 use Rattle.protocol.proofs.ModelSteps.{update-two}
 
 module _ {X : Type 0} (m n : ℕ) (blank : X) where

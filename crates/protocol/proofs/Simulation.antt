@@ -1,13 +1,10 @@
 -- A view, and its history, match a run of the model.
-use mathlib.Core.Path.{_≡_, refl, sym, ap, ap₂, subst, subst₂, _∙_, fun-ext}
-use mathlib.Core.Logic.{_≢_, inl, inr}
-use mathlib.Core.Bool.{Bool, true, false, cond, _&&_, _||_, not}
-use mathlib.Core.List.{List, [], _∷_, _++_}
-use Prim.Native.Nat.{ℕ, zero, suc, _+_, _/_, _≤_, _<_}
-use native.Mathlib.Omega.{arith}
-use lib.Dec.{eqb}
+use mathlib.Core.Path.{_≡_, refl, sym, ap, subst, _∙_, fun-ext}
+use mathlib.Core.Logic.{_≢_}
+use mathlib.Core.Bool.{true, false, _&&_}
+use mathlib.Core.List.{List, _++_}
+use Prim.Native.Nat.{ℕ, zero, suc, _+_, _≤_, _<_}
 use Rattle.std.specs.declared.option.Option.{Option}
-use Rattle.std.proofs.shelf.Tests.{eqb-true, eqb-false, cases-eq}
 use Rattle.stores.specs.Provider.{Provider}
 use Rattle.protocol.specs.History.{History, Operation, Doing, resting, writing, reading, update}
 use Rattle.protocol.specs.Law.{holds-no-room}
@@ -22,14 +19,14 @@ use Rattle.protocol.proofs.Decoding.{list-progress, store-progress, gather-pro
 use Rattle.protocol.proofs.Invariant.{at1, at3, at-line}
 use Rattle.protocol.proofs.Model as M
 use Rattle.protocol.proofs.Model.{Code, ModelSeat, Transit, listed-once, top, next-store, next-gather}
-use Rattle.protocol.proofs.ModelLines.{Asked, SeatOk, update-same, update-other}
+use Rattle.protocol.proofs.ModelLines.{Asked, SeatOk}
 use Rattle.protocol.proofs.ModelSteps as S
 use Rattle.protocol.proofs.ModelSteps.{ModelState, update-two}
 use Rattle.protocol.proofs.OpenWrites.{opens}
 use Rattle.protocol.proofs.Register.{Run}
 use Rattle.protocol.proofs.Trace.{Trace}
-use Rattle.protocol.proofs.Updates.{update-map, update-two-else}
-use Rattle.protocol.proofs.View.{View, with-line, turn}
+use Rattle.protocol.proofs.Updates.{update-map}
+use Rattle.protocol.proofs.View.{View, turn}
 
 abbrev pub transit-of : LineState → Transit
 transit-of free = M.free

@@ -1,17 +1,17 @@
 -- the tags of a provider's temporary keys: who may have how many
-use mathlib.Core.Path.{_≡_, refl, sym, ap, subst, _∙_}
+use mathlib.Core.Path.{_≡_, refl, sym, ap, _∙_}
 use mathlib.Core.Logic.{_≢_, _⊎_, inl, inr}
-use mathlib.Core.Bool.{Bool, true, false, cond}
-use mathlib.Core.List.{List, [], _∷_, _++_, map}
-use Prim.Native.Nat.{ℕ, zero, suc, _+_, _≤_, _<_}
+use mathlib.Core.Bool.{false}
+use mathlib.Core.List.{List, [], _∷_, _++_}
+use Prim.Native.Nat.{ℕ, suc, _+_, _≤_, _<_}
 use native.Mathlib.Omega.{arith}
 use lib.Dec.{eqb}
 use lib.ListN.{length}
 use Rattle.std.specs.shelf.Lists.{All}
 use Rattle.std.proofs.shelf.Elements.{all-push, all-weaker}
-use Rattle.std.proofs.shelf.Tests.{cond-both, eqb-true, eqb-false, cases-eq}
+use Rattle.std.proofs.shelf.Tests.{cond-both, eqb-false}
 use Rattle.protocol.specs.Law.{Each-two}
-use Rattle.protocol.proofs.Model.{Tag, untag, put-tag}
+use Rattle.protocol.proofs.Model.{Tag, untag}
 use Rattle.protocol.proofs.Lists.{In, pairs-push, fits-in, upto, in-upto, length-upto}
 
 -- none of the tags is the seat's

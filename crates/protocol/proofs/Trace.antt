@@ -1,15 +1,11 @@
 -- the operations, and the one order in which they stand
-use mathlib.Core.Path.{_≡_}
-use mathlib.Core.Logic.{_≢_, _⊎_}
-use mathlib.Core.Bool.{Bool, true, false, cond, _&&_, not}
-use mathlib.Core.List.{List, [], _∷_, _++_}
-use Rattle.std.specs.declared.option.Option.{Option}
+use mathlib.Core.Bool.{true, false, cond, _&&_}
+use mathlib.Core.List.{List, [], _∷_}
 use Rattle.std.specs.declared.option.Option.the-variants.{Some, None}
-use Prim.Native.Nat.{ℕ, zero, suc, _+_, _≤_, _<_}
-use lib.Dec.{eqb, ltb, leb}
+use Prim.Native.Nat.{ℕ, suc}
+use lib.Dec.{eqb, ltb}
 use Rattle.protocol.specs.History.{update, Operation}
-use Rattle.protocol.specs.Phases.{count, most, next-version}
-use Rattle.protocol.proofs.Model.{Code}
+use Rattle.protocol.specs.Phases.{most, next-version}
 use Rattle.protocol.proofs.ModelSteps.{ModelState, Step, listed, posts, lands, fetches, begins-write, begins-read, stops, gives, uses-up, finds, reads, reads-none, ends}
 
 -- what the proof keeps beside the state: the place of the next call, when each seat's operation began, the one order of

@@ -10,11 +10,11 @@ use lib.ListN.{length, getD, set, length-set}
 use lib.Seq.{getD-set-same, getD-set-other}
 use Rattle.std.proofs.shelf.Tests.{cond-true, cond-false, cases-eq, eqb-true, eq-eqb, ne-eqb, lt-ltb, le-ltb, cases-lt, and-from}
 use Rattle.stores.specs.Provider.{Provider}
-use Rattle.protocol.specs.Answers.{Answer, ok, on, refused}
+use Rattle.protocol.specs.Answers.{Answer, ok, refused}
 use Rattle.protocol.specs.History.{update}
 use Rattle.protocol.specs.Lines.{LineState, free, sent, answered, is-free, Progress, Line, blank-line, restart-line}
 use Rattle.protocol.specs.Moves.{advance}
-use Rattle.protocol.specs.Phases.{count, most, counts, done-lines, listed-on, largest-listed, found-on, newer, newest-found, Outcome, goes-on, turns, end-listing, end-gathering, end-storing, majority, outcome}
+use Rattle.protocol.specs.Phases.{counts, done-lines, listed-on, largest-listed, found-on, newer, newest-found, Outcome, goes-on, turns, end-listing, end-gathering, end-storing, majority, outcome}
 use Rattle.protocol.specs.Requests.{Reply, reply, served}
 use Rattle.protocol.specs.Seats.{Activity, idle, stopped, listing, gathering, storing, Seat, blank-seat, activity, is-idle, is-stopped, turned-to}
 use Rattle.protocol.specs.Stages.{foreign}

@@ -2,11 +2,9 @@ use mathlib.Core.Bool.{Bool, true, false, cond}
 use mathlib.Core.List.{List, [], _∷_, _++_}
 use Prim.Native.Nat.{ℕ, zero, suc}
 use lib.Dec.{eqb, leb}
-use lib.ListN.{getD}
 use Rattle.std.specs.declared.option.Option.{Option}
 use Rattle.std.specs.declared.option.Option.the-variants.{Some, None}
 use Rattle.protocol.specs.Answers.{Call, begin-write, begin-read, post, land, fetch, stop, lose, Answer, ok, on, dropped, wrote, read, read-none, used, refused}
-use Rattle.protocol.specs.Seats.{Seat, blank-seat}
 
 -- What a list of calls and their answers say of the register: which operations there were, and when.
 

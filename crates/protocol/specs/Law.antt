@@ -10,12 +10,11 @@ use Rattle.std.specs.shelf.Lists.{All}
 use Rattle.std.specs.shelf.Sorted.{Shuffled}
 use Rattle.stores.specs.Provider.{Provider}
 use Rattle.protocol.specs.Answers.{Call, Answer}
-use Rattle.protocol.specs.History.{Operation, History, no-calls, history, open-writes}
+use Rattle.protocol.specs.History.{Operation, no-calls, history, open-writes}
 use Rattle.protocol.specs.Lines.{LineState, free, sent, answered, Line, blank-line}
 use Rattle.protocol.specs.Lines as st
 use Rattle.protocol.specs.Phases.{majority}
 use Rattle.protocol.specs.Requests.{Reply, keys-are, got, accepted, no-room}
-use Rattle.protocol.specs.Seats.{Seat, blank-seat}
 use Rattle.protocol.specs.Steps.{State, step, seat-at}
 use Rattle.protocol.specs.declared.phase.Phase.the-variants.{Idle}
 

@@ -1,4 +1,4 @@
-use mathlib.Core.Bool.{Bool, true, cond, _||_}
+use mathlib.Core.Bool.{true, cond, _||_}
 use mathlib.Core.List.{List, [], _∷_}
 use Prim.Native.Nat.{ℕ, max}
 use lib.Dec.{eqb, leb, ltb}
@@ -23,18 +23,26 @@ abbrev pub keys-but : ℕ → List ℕ → List ℕ
 keys-but t [] = []
 keys-but t (k ∷ l) = cond (eqb k 0 || eqb k t) (keys-but t l) (k ∷ keys-but t l)
 
+-- the older temporary keys: all but the largest
+abbrev pub older-keys : List ℕ → List ℕ
+older-keys l = keys-but (largest-key l) l
+
+-- The mark is set by the first list that has a temporary key, and kept by later ones.
+abbrev pub mark-after : ℕ → ℕ → ℕ
+mark-after mark largest = cond (eqb mark 0) largest mark
+
 -- Changes of one field.
 abbrev pub to-stage : Stage → Progress → Progress
 to-stage g p = record { stage = g; done = p .done; mark = p .mark; older = p .older; largest = p .largest; found = p .found }
 
 abbrev pub keep-list : List ℕ → Progress → Progress
-keep-list l p = record { stage = p .stage; done = p .done; mark = p .mark; older = keys-but (largest-key l) l; largest = largest-key l; found = p .found }
+keep-list l p = record { stage = p .stage; done = p .done; mark = p .mark; older = older-keys l; largest = largest-key l; found = p .found }
 
 abbrev pub drop-oldest : Progress → Progress
 drop-oldest p = record { stage = p .stage; done = p .done; mark = p .mark; older = drop 1 (p .older); largest = p .largest; found = p .found }
 
 abbrev pub set-mark : Progress → Progress
-set-mark p = record { stage = p .stage; done = p .done; mark = cond (eqb (p .mark) 0) (p .largest) (p .mark); older = p .older; largest = p .largest; found = p .found }
+set-mark p = record { stage = p .stage; done = p .done; mark = mark-after (p .mark) (p .largest); older = p .older; largest = p .largest; found = p .found }
 
 abbrev pub finished : Progress → Progress
 finished p = record { stage = p .stage; done = true; mark = p .mark; older = p .older; largest = p .largest; found = p .found }
@@ -57,7 +65,7 @@ remove-or-put [] p = to-stage at.PutStanding p
 remove-or-put (k ∷ l) p = to-stage at.RemoveOlder p
 
 abbrev pub after-list : Reply → Progress → Progress
-after-list (keys-are l) p = remove-or-put (keys-but (largest-key l) l) (keep-list l p)
+after-list (keys-are l) p = remove-or-put (older-keys l) (keep-list l p)
 after-list (got o) p = p
 after-list accepted p = p
 after-list no-room p = p

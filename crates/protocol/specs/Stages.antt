@@ -1,9 +1,8 @@
-use mathlib.Core.Bool.{Bool, true, false, _&&_, _||_, not, cond}
+use mathlib.Core.Bool.{Bool, true, false, _&&_, _||_, not}
 use mathlib.Core.List.{List, [], _∷_}
 use Prim.Native.Nat.{ℕ}
 use lib.Dec.{eqb}
 use lib.ListN.{getD}
-use Rattle.stores.specs.Provider.{Cell}
 use Rattle.protocol.specs.Requests.{Request, list-keys, get-key, put-cell, remove-key, Reply, keys-are, got, accepted, no-room}
 use Rattle.protocol.specs.Lines.{LineState, free, sent, answered, is-free, Progress, Line}
 use Rattle.protocol.specs.Seats.{Activity, idle, stopped, listing, gathering, storing}

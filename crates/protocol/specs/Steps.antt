@@ -9,7 +9,7 @@ use Rattle.protocol.specs.Lines.{LineState, free, sent, answered, is-free, Pro
 use Rattle.protocol.specs.Moves.{advance}
 use Rattle.protocol.specs.Phases.{Outcome, goes-on, turns, outcome}
 use Rattle.protocol.specs.Requests.{Reply, keys-are, got, accepted, no-room, reply, served}
-use Rattle.protocol.specs.Seats.{Activity, idle, stopped, listing, gathering, Seat, blank-seat, activity, is-idle, is-stopped, turned-to}
+use Rattle.protocol.specs.Seats.{Activity, stopped, listing, gathering, Seat, blank-seat, activity, is-idle, is-stopped, turned-to}
 use Rattle.protocol.specs.Stages.{foreign, request-of}
 use Rattle.protocol.specs.declared.stage.Stage.{Stage}
 use Rattle.protocol.specs.declared.stage.Stage.the-variants as at

@@ -3,7 +3,7 @@ ghost use mathlib.Core.List.{[], _∷_};
 ghost use Rattle.std.specs.declared.option.Option.the-variants.{Some};
 ghost use Rattle.stores.specs.Operations.{get-answer};
 ghost use Rattle.protocol.specs.Examples.{fresh, write-calls, write-answers, overlap-calls, overlap-answers, late-calls, late-answers, recovery-calls, recovery-answers, old-calls, old-answers, Unlawful};
-ghost use Rattle.protocol.specs.Law.{answers, end};
+ghost use Rattle.protocol.specs.Law.{answers, end, Opened};
 ghost use Rattle.protocol.specs.Steps.{provider-at};
 
 // Short runs, computed by the checker: they show that the steps do what they should, and that the law can fail.
@@ -29,4 +29,9 @@ pub fn late_put_runs()
 // The law can fail: a settled read that shows an older write, after a newer one has finished, is not lawful.
 pub fn old_read_is_unlawful()
     ensures { λ _. ⌜ Unlawful 2 3 old-calls old-answers ⌝ }
+{}
+
+// The state that these runs start from is one that open hands over, so the law speaks of them.
+pub fn fresh_is_opened()
+    ensures { λ _. ⌜ Opened 2 3 fresh ⌝ }
 {}

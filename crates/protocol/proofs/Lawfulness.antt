@@ -22,7 +22,8 @@ use Rattle.protocol.specs.Lines as lines
 use Rattle.protocol.specs.Phases.{majority}
 use Rattle.protocol.specs.Seats.{idle, listing, gathering, activity-in}
 use Rattle.protocol.specs.Steps as steps
-use Rattle.protocol.specs.Steps.{State, step, seat-at, no-provider, outside, refuse}
+use Rattle.protocol.specs.State.{State, seat-at, no-provider}
+use Rattle.protocol.specs.Steps.{step, outside, refuse}
 use Rattle.protocol.proofs.Arrangements.{Arranged, done, arranged-shuffled}
 use Rattle.protocol.proofs.Calling.{write-reach, read-reach, post-reach, land-reach, stop-reach, lose-reach}
 use Rattle.protocol.proofs.Fetched.{fetch-reach}

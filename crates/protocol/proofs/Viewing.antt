@@ -18,8 +18,10 @@ use Rattle.protocol.specs.Phases.{counts, done-lines, listed-on, largest-liste
 use Rattle.protocol.specs.Requests.{Reply, reply, served}
 use Rattle.protocol.specs.Seats.{Activity, idle, stopped, listing, gathering, storing, Seat, blank-seat, activity, is-idle, is-stopped, turned-to}
 use Rattle.protocol.specs.Stages.{foreign}
+use Rattle.protocol.specs.State as states
 use Rattle.protocol.specs.Steps as steps
-use Rattle.protocol.specs.Steps.{State, no-provider, seat-at, line-at, provider-at, lost-at, restart-lines, refuse, unless-full, looks-after, post-line}
+use Rattle.protocol.specs.State.{State, no-provider, seat-at, line-at, provider-at, lost-at, restart-lines}
+use Rattle.protocol.specs.Steps.{refuse, unless-full, looks-after, post-line}
 use Rattle.protocol.proofs.ModelLines.{update-same, update-other}
 use Rattle.protocol.proofs.ModelSteps.{update-two}
 use Rattle.protocol.proofs.Sheets.{at, at-set}
@@ -167,7 +169,7 @@ module _ (m n : ℕ) where
     set-view : (s i : ℕ) (l : Line) → s < m → i < n → lines-of (set (C .lines) (s * n + i) l) ≡ update-two (lines-of (C .lines)) s i l
     set-view s i l a b = fun-ext (λ o. fun-ext (λ j. at-set m n blank-line (C .lines) (h .lines) s i l a b o j))
 
-    turn-view : (s : ℕ) (k : Activity) → s < m → view (steps.turn n s k C) ≡ views.turn W s k
+    turn-view : (s : ℕ) (k : Activity) → s < m → view (states.turn n s k C) ≡ views.turn W s k
     turn-view s k a =
         ap₂ (λ f v. made f v (lines-of (restart-lines n n s (C .lines))) (W .provider) (W .lost))
         (fun-ext (λ o. activity-set (C .seats) s _ (h .seats) a o ∙ ap (λ k. update (W .activity) s k o) (turned-activity (seat-at C s) k)))
@@ -188,7 +190,7 @@ module _ (m n : ℕ) where
             go true e = past (ltb j n) refl (eqb-true s o e)
             go false e = refl
 
-    turned : (s : ℕ) (k : Activity) (y : Answer) → s < m → Agree (steps.turn n s k C, y) (views.turn W s k, y)
+    turned : (s : ℕ) (k : Activity) (y : Answer) → s < m → Agree (states.turn n s k C, y) (views.turn W s k, y)
     turned s k y l = record {
       same = turn-view s k l;
       says = refl;
@@ -202,7 +204,7 @@ module _ (m n : ℕ) where
     pub begins : (s : ℕ) (k : Activity) → s < m → Agree (steps.begin-at n s k C) (views.begin s k W)
     begins s k l = subst (λ a. Agree (steps.begin-at n s k C) (views.check (is-stopped a) 7 W (views.check (not (is-idle a)) 8 W (views.turn W s k, ok)))) (sym (activity-here (C .seats) s l)) (let q = activity (seat-at C s) in checked (is-stopped q) 7 _ _ (checked (not (is-idle q)) 8 _ _ (turned s k ok l)))
 
-    written : (s i : ℕ) (l : Line) → s < m → i < n → Agree (steps.with-line n C s i l, ok) (views.with-line W s i l, ok)
+    written : (s i : ℕ) (l : Line) → s < m → i < n → Agree (states.with-line n C s i l, ok) (views.with-line W s i l, ok)
     written s i l a b = record { same = ap (λ f. made (W .activity) (W .version) f (W .provider) (W .lost)) (set-view s i l a b); says = refl; sized = lines-sized _ (C .looks) (length-set (C .lines) (s * n + i) l) }
 
     pub posts : (s i : ℕ) → s < m → i < n → Agree (steps.post-at n s i (activity (seat-at C s)) (line-at n (C .lines) s i) C) (views.post s i (W .activity s) (W .line s i) W)

@@ -6,7 +6,7 @@ use Rattle.protocol.specs.Answers.{Call, begin-write, begin-read, post, land, 
 use Rattle.protocol.specs.Law.{Lawful}
 use Rattle.protocol.specs.Lines.{blank-line}
 use Rattle.protocol.specs.Seats.{blank-seat}
-use Rattle.protocol.specs.Steps.{State}
+use Rattle.protocol.specs.State.{State}
 
 -- Runs of two seats and three empty providers of capacity four. Version (1, 1) has rank 65537, and (2, 2) has 131074.
 abbrev pub fresh : State

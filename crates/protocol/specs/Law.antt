@@ -15,7 +15,8 @@ use Rattle.protocol.specs.Lines.{LineState, free, sent, answered, Line, blank-
 use Rattle.protocol.specs.Lines as st
 use Rattle.protocol.specs.Phases.{majority}
 use Rattle.protocol.specs.Requests.{Reply, keys-are, got, accepted, no-room}
-use Rattle.protocol.specs.Steps.{State, step, seat-at}
+use Rattle.protocol.specs.State.{State, seat-at}
+use Rattle.protocol.specs.Steps.{step}
 use Rattle.protocol.specs.declared.phase.Phase.the-variants.{Idle}
 
 -- R holds of each two elements, the earlier first

@@ -5,6 +5,7 @@ pub mod Stages
 pub mod Answers
 pub mod Moves
 pub mod Phases
+pub mod State
 pub mod Steps
 pub mod History
 pub mod Law

@@ -4,7 +4,7 @@ ghost use Rattle.std.specs.declared.option.Option.the-variants.{Some};
 ghost use Rattle.stores.specs.Operations.{get-answer};
 ghost use Rattle.protocol.specs.Examples.{fresh, write-calls, write-answers, overlap-calls, overlap-answers, late-calls, late-answers, recovery-calls, recovery-answers, old-calls, old-answers, Unlawful};
 ghost use Rattle.protocol.specs.Law.{answers, end, Opened};
-ghost use Rattle.protocol.specs.Steps.{provider-at};
+ghost use Rattle.protocol.specs.State.{provider-at};
 
 // Short runs, computed by the checker: they show that the steps do what they should, and that the law can fail.
 

@@ -10,13 +10,14 @@ use lib.Arith.{digits-lt}
 use lib.Dec.{ltb, leb}
 use lib.ListN.{length, getD, take}
 use Rattle.std.specs.shelf.Lists.{All}
+use Rattle.std.specs.shelf.Sorted.{Shuffled}
 use Rattle.std.proofs.shelf.Elements.{all-getD, all-from-getD}
 use Rattle.std.proofs.shelf.Lists.{getD-take, length-take}
 use Rattle.std.proofs.shelf.Tests.{cond-both, leb-true, and-parts, true≢false, ltb-true}
 use Rattle.stores.specs.Provider.{Provider}
 use Rattle.protocol.specs.Answers.{Call, begin-write, begin-read, post, land, fetch, stop, lose, Answer}
-use Rattle.protocol.specs.History.{History, Doing, resting, writing, reading, begin-noted, fetch-noted, noted, next-call, history, no-calls}
-use Rattle.protocol.specs.Law.{Lawful, Opened, Law, answers, end, holds-no-room, ShowsSome, NotOld, NoneBefore}
+use Rattle.protocol.specs.History.{History, open-writes, Doing, resting, writing, reading, begin-noted, fetch-noted, noted, next-call, history, no-calls}
+use Rattle.protocol.specs.Law.{Lawful, Opened, Law, answers, end, holds-no-room, NotOld, NoneBefore}
 use Rattle.protocol.specs.Lines.{Line, blank-line}
 use Rattle.protocol.specs.Lines as lines
 use Rattle.protocol.specs.Phases.{majority}
@@ -29,7 +30,8 @@ use Rattle.protocol.proofs.Calling.{write-reach, read-reach, post-reach, land-
 use Rattle.protocol.proofs.Fetched.{fetch-reach}
 use Rattle.protocol.proofs.Histories.{Alike, begin-alike, fetch-alike, next-alike, opens-open}
 use Rattle.protocol.proofs.OpenWrites.{opens}
-use Rattle.protocol.proofs.Register.{opened, ticks, first-state, first-trace, register}
+use Rattle.protocol.proofs.Register.{ShowsBy, opened, ticks, first-state, first-trace, register}
+use Rattle.protocol.proofs.Places.{placed, first-placed, all-before}
 use Rattle.protocol.proofs.Simulation.{Come, Always, story, Reached, seen, pending, transit-of, DoingOk}
 use Rattle.protocol.proofs.Trace.{tick}
 use Rattle.protocol.proofs.View.{View}
@@ -153,14 +155,15 @@ module _ (m n : ℕ) (n0 : 0 < n) (small : m ≤ 65534) where
         let H = history cs as′ no-calls in
         let r = register n m n0 small (w .st) (w .trace) (w .run) in
         let same = h .alike .plain in
+        let exact : Shuffled (H .finished ++ open-writes (majority n) (λ s. seat-at E s .version) H m) (w .trace .order) = arranged-shuffled _ _ (subst₂ (λ f l. Arranged (f ++ l) (w .trace .order)) (h .alike .finished) (opens-open (majority n) (view m n E .version) (story w) H (h .alike) m) (w .arranged)) in
         record {
           order = w .trace .order;
-          exactly = arranged-shuffled _ _ (subst₂ (λ f l. Arranged (f ++ l) (w .trace .order)) (h .alike .finished) (opens-open (majority n) (view m n E .version) (story w) H (h .alike) m) (w .arranged));
+          exactly = exact;
           rising = r .rising;
           above = r .above;
           in-time = r .in-time;
           shows = r .shows;
-          plain-some = subst (All (ShowsSome (w .trace .order))) same (r .plain-some);
+          plain-some = all-before H m (λ s. seat-at E s .version) (w .trace .order) _ exact (placed cs as′ no-calls first-placed) (subst (All (ShowsBy (w .trace .order))) same (r .plain-some));
           plain-new = subst (All (NotOld (w .trace .order))) same (r .plain-new);
           plain-none = subst (All (NoneBefore (w .trace .order))) same (r .plain-none);
           few-keys = all-from-getD _ (E .row) no-provider (λ i _. subst (λ c. length c ≤ m + 2) (w .match .cells i) (r .few-keys i));

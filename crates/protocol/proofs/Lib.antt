@@ -25,3 +25,4 @@ pub mod Viewing
 pub mod Histories
 pub mod Lawfulness
 pub mod Unlawful
+pub mod Places

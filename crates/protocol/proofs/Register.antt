@@ -12,7 +12,7 @@ use Rattle.std.specs.shelf.Lists.{All}
 use Rattle.std.proofs.shelf.Elements.{all-weaker}
 use Rattle.std.proofs.shelf.Tests.{both-ways}
 use Rattle.protocol.specs.History.{Operation}
-use Rattle.protocol.specs.Law.{Each-two, Any, Rises, InTime, Shows, ShowsSome, NotOld, NoneBefore}
+use Rattle.protocol.specs.Law.{Each-two, Any, Rises, InTime, Shows, NotOld, NoneBefore}
 use Rattle.protocol.specs.Phases.{count}
 use Rattle.protocol.proofs.Lists.{all-and, none-some}
 use Rattle.protocol.proofs.Model.{Code, idle, free}
@@ -34,12 +34,16 @@ pub data Run (n seats : ℕ) : ModelState → Trace → Type 0 where
   ticks : {st : ModelState} {L : Trace} → Run n seats st L → Run n seats st (tick L)
   goes : {st su : ModelState} {L : Trace} → Run n seats st L → (d : Step n seats st su) → Run n seats su (trace-step n seats st su d L)
 
+-- a plain read shows nothing, or a write that began when it finished or before
+abbrev pub ShowsBy : List Operation → Operation → Type 0
+ShowsBy order r = ((r .version ≡ 0) × (r .value ≡ None)) ⊎ Any (λ w. (w .write ≡ true) × (w .version ≡ r .version) × (w .value ≡ r .value) × (w .begun ≤ r .ended)) order
+
 pub record Register (seats : ℕ) (st : ModelState) (L : Trace) : Type 0 where
   pub rising : Each-two Rises (L .order)
   pub above : All (λ w. w .write ≡ true → 0 < w .version) (L .order)
   pub in-time : Each-two InTime (L .order)
   pub shows : Shows 0 None (L .order)
-  pub plain-some : All (ShowsSome (L .order)) (L .plain)
+  pub plain-some : All (ShowsBy (L .order)) (L .plain)
   pub plain-new : All (NotOld (L .order)) (L .plain)
   pub plain-none : All (NoneBefore (L .order)) (L .plain)
   pub few-keys : (i : ℕ) → length (st .provider i .cells) ≤ seats + 2

@@ -46,9 +46,9 @@ abbrev pub Shows : ℕ → Option (List ℕ) → List Operation → Type 0
 Shows v x [] = Unit {0}
 Shows v x (o ∷ l) = cond (o .write) (Shows (o .version) (o .value) l) ((o .version ≡ v) × (o .value ≡ x) × Shows v x l)
 
--- A plain read shows nothing, or a write that began before the read finished. (The two places are never the same.)
+-- A plain read shows nothing, or a write that began before the read finished.
 abbrev pub ShowsSome : List Operation → Operation → Type 0
-ShowsSome order r = ((r .version ≡ 0) × (r .value ≡ None)) ⊎ Any (λ w. (w .write ≡ true) × (w .version ≡ r .version) × (w .value ≡ r .value) × (w .begun ≤ r .ended)) order
+ShowsSome order r = ((r .version ≡ 0) × (r .value ≡ None)) ⊎ Any (λ w. (w .write ≡ true) × (w .version ≡ r .version) × (w .value ≡ r .value) × (w .begun < r .ended)) order
 
 -- No write that finished before the plain read began stands after the one that it shows: none has a larger version.
 abbrev pub NotOld : List Operation → Operation → Type 0

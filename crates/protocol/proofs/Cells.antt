@@ -1,4 +1,4 @@
--- the provider's map: what put and remove do to its cells, its largest key and its keys
+-- A provider's map: what put and remove do to its cells, its largest key and its keys.
 use mathlib.Core.Path.{_≡_, refl, ap, _∙_}
 use mathlib.Core.Logic.{_≢_, _⊎_, inl, inr}
 use mathlib.Core.List.{List, [], _∷_, _++_, map}

@@ -1,4 +1,4 @@
--- counting below n: two majorities meet
+-- Counting below n: two majorities meet.
 use mathlib.Core.Path.{_≡_, refl, sym, ap, ap₂, subst, _∙_}
 use mathlib.Core.Logic.{_≢_, inl, inr}
 use mathlib.Core.Bool.{Bool, true, false, cond}

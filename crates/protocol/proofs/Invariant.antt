@@ -1,4 +1,7 @@
--- the invariant of the whole, and that each step keeps it
+-- The invariant of the whole model, and that each step keeps it. `highest` is the largest version of a finished write or
+-- settled read: a majority of the providers has a key not below it (`risen`). `low` is what it was when a seat's operation
+-- began, and a majority had a floor not below that (`begun`). Two majorities meet, so what a phase collects is not below low,
+-- and a new version is above it.
 use mathlib.Core.Path.{_≡_, refl, sym, ap, subst, subst₂, _∙_}
 use mathlib.Core.Logic.{_≢_, _⊎_, inl, inr}
 use mathlib.Core.Bool.{Bool, true, false, cond, _&&_}

@@ -1,4 +1,4 @@
--- membership, what holds of each, and what holds of each two
+-- Membership, what holds of each element, and what holds of each two.
 use mathlib.Core.Path.{_≡_, refl, sym, ap, subst, _∙_}
 use mathlib.Core.Logic.{_≢_, _⊎_, inl, inr}
 use mathlib.Core.Bool.{cond}

@@ -1,4 +1,7 @@
--- what holds of one line
+-- What holds of one line, by its progress, and that a landing at its provider keeps it. `t` is the provider's largest key, and
+-- `f`, the floor, is what that was when the seat's operation began. A storing line's largest listed key is not above t, and
+-- once the line is done neither is its version; what a listing or gathering line that is done has seen is not below f.
+-- A line with a stale request or answer on the way is at its start.
 use mathlib.Core.Path.{_≡_, refl, sym, subst, _∙_}
 use mathlib.Core.Logic.{_≢_, _⊎_, inl, inr}
 use mathlib.Core.Bool.{true, false}

@@ -1,4 +1,4 @@
--- the whole state, with what the proof keeps beside it, and the steps
+-- The whole state of the model, with what the proof keeps beside it, and its steps. A call is none, one or two of them.
 use mathlib.Core.Path.{_≡_}
 use mathlib.Core.Logic.{_≢_}
 use mathlib.Core.Bool.{Bool, true, false, cond, _&&_}
@@ -137,7 +137,7 @@ blank-store i = to-list
 abbrev pub owner : ℕ → ℕ
 owner v = v % 65536 - 1
 
--- one step of n providers; a call is one or two of them, or none
+-- one step of a model of n providers
 pub data Step (n seats : ℕ) (st : ModelState) : ModelState → Type 0 where
   posts : (s i : ℕ) → s < seats → Active (st .seat s) → Step n seats st (post st s i)
   lands : (s i : ℕ) (b : Bool) (r : Request) → s < seats → st .transit s i ≡ sent b r → Step n seats st (land st s i b r)

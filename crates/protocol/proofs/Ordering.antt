@@ -1,4 +1,6 @@
--- the order of the operations
+-- The order of the operations. An operation is put in before the first one of larger version, a write when it gets its
+-- version and a settled read when it finishes; versions do not fall along the order, they rise strictly towards a write, and
+-- none that finished before another began stands after it.
 use mathlib.Core.Path.{_≡_, refl, sym, ap, subst, _∙_}
 use mathlib.Core.Logic.{_≢_, _⊎_, inl, inr}
 use mathlib.Core.Bool.{Bool, true, false, _&&_}

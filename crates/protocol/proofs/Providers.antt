@@ -1,4 +1,7 @@
--- what holds of one provider, and that a request that may be sent keeps it
+-- What holds of one provider (`ProviderOk`): its keys rise; a temporary key holds the version of its name; every pair that it
+-- holds was given to a write. And which requests may be on the way to it (`RequestOk`): a put of a given pair under the
+-- standing key or its own, and a remove of a key below the largest. Such requests keep what holds, and the largest key
+-- never falls: the heart of the protocol.
 use mathlib.Core.Path.{_≡_, refl}
 use mathlib.Core.Logic.{_≢_, _⊎_, inl, inr}
 use mathlib.Core.List.{List, [], _∷_, _++_, map}

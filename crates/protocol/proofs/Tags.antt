@@ -1,4 +1,5 @@
--- the tags of a provider's temporary keys: who may have how many
+-- The bound on a provider's keys. Beside the cells the model keeps a tag for each temporary key: which seat put it last,
+-- ordered by the last put. The seats of all tags but the first differ, so there is at most one more than there are seats.
 use mathlib.Core.Path.{_≡_, refl, sym, ap, _∙_}
 use mathlib.Core.Logic.{_≢_, _⊎_, inl, inr}
 use mathlib.Core.Bool.{false}

@@ -1,4 +1,4 @@
--- the operations, and the one order in which they stand
+-- The operations of a run of the model, and the one order in which they stand.
 use mathlib.Core.Bool.{true, false, cond, _&&_}
 use mathlib.Core.List.{List, [], _∷_}
 use Rattle.std.specs.declared.option.Option.the-variants.{Some, None}

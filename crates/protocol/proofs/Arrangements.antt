@@ -12,7 +12,7 @@ use Rattle.std.proofs.shelf.Elements.{all-weaker}
 use Rattle.std.proofs.shelf.Sorted.{shuffled-refl, shuffled-cons, shuffled-trans, shuffled-sym, shuffled-to-front}
 use Rattle.std.proofs.shelf.Tests.{ne-eqb, cond-false, cond-both}
 use Rattle.protocol.specs.History.{Operation}
-use Rattle.protocol.specs.Law.{Each-two, Rises}
+use Rattle.protocol.specs.Law.{Each-two, VersionsRise}
 use Rattle.protocol.proofs.Trace.{insert-ordered, end-write, end-writes}
 
 -- k is l with o put in somewhere
@@ -81,11 +81,11 @@ arranged-all : (P : Operation → Type 0) {l k : List Operation} → Arranged l 
 arranged-all P done h = tt
 arranged-all P (more g i) h = let z = insert-all P i h in (z .0, arranged-all P g (z .1))
 
-others-in : {o : Operation} {l k : List Operation} → o .write ≡ true → Insert o l k → Each-two Rises k → All (Other o) l
+others-in : {o : Operation} {l k : List Operation} → o .write ≡ true → Insert o l k → Each-two VersionsRise k → All (Other o) l
 others-in t here h = all-weaker _ _ (λ y r w e. omega (arith, r t w)) _ (h .0)
 others-in t (there i) h = let z = insert-all _ i (h .0) in ((λ w e. omega (arith, z .0 w t)), others-in t i (h .1))
 
-apart : {o : Operation} {l k : List Operation} → o .write ≡ true → Arranged (o ∷ l) k → Each-two Rises k → All (Other o) l
+apart : {o : Operation} {l k : List Operation} → o .write ≡ true → Arranged (o ∷ l) k → Each-two VersionsRise k → All (Other o) l
 apart t (more g i) h = arranged-all _ g (others-in t i h)
 
 end-rest : (o : Operation) (c : ℕ) (l : List Operation) → All (Other o) l → end-writes (o .version) c l ≡ l
@@ -97,5 +97,5 @@ end-rest o c (y ∷ l) h = ap₂ (λ e l. record { write = y .write; begun = y .
     go false e f = refl
 
 -- the write o ends
-pub ended-arranged : (o : Operation) (c : ℕ) {l k : List Operation} → o .write ≡ true → Arranged (o ∷ l) k → Each-two Rises k → Arranged (end-write (o .version) c o ∷ l) (end-writes (o .version) c k)
+pub ended-arranged : (o : Operation) (c : ℕ) {l k : List Operation} → o .write ≡ true → Arranged (o ∷ l) k → Each-two VersionsRise k → Arranged (end-write (o .version) c o ∷ l) (end-writes (o .version) c k)
 ended-arranged o c {l} {k} t h r = subst (λ l. Arranged (end-write (o .version) c o ∷ l) (end-writes (o .version) c k)) (end-rest o c l (apart t h r)) (end-arranged (o .version) c h)

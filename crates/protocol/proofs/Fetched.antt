@@ -10,7 +10,7 @@ use Rattle.protocol.specs.History.{fetch-noted}
 use Rattle.protocol.specs.Law.{found-no-room, holds-no-room}
 use Rattle.protocol.specs.Lines.{LineState, free, sent, answered, is-free, Progress, Line}
 use Rattle.protocol.specs.Moves.{advance}
-use Rattle.protocol.specs.Phases.{counts, done-lines, Outcome, outcome}
+use Rattle.protocol.specs.Phases.{counts, done-lines, PhaseResult, phase-result}
 use Rattle.protocol.specs.Requests.{Reply, keys-are, got, accepted, no-room}
 use Rattle.protocol.specs.Seats.{Activity, idle, stopped, listing, gathering, storing, is-stopped}
 use Rattle.protocol.specs.Stages.{foreign}
@@ -30,7 +30,7 @@ use Rattle.protocol.proofs.Updates.{update-two-map, update-two-row, update-two
 use Rattle.protocol.proofs.View.{View, freed, conclude, judge, fetch-line, fetch}
 
 -- a put found room
-not-full : (r : Reply) (y : Outcome) → found-no-room r ≡ false → y ≡ unless-full r y
+not-full : (r : Reply) (y : PhaseResult) → found-no-room r ≡ false → y ≡ unless-full r y
 not-full (keys-are l) y h = refl
 not-full (got o) y h = refl
 not-full accepted y h = refl
@@ -111,7 +111,7 @@ module _ (n seats : ℕ) (n0 : 0 < n) (small : seats ≤ 65534) (V : View) (s i 
         count-one (λ j. counts (V .line s j)) (λ j. counts (T .line s j)) n i li old new (λ j d. ap counts (update-two-row (V .line) s i line j ∙ update-other (V .line s) i j line d)) ∙ ap suc (sym (doing-at (listing x) q .1))
 
     settled : (a : Activity) → V .activity s ≡ a → foreign a (record { state = answered false r; progress = V .line s i .progress }) ≡ false →
-        let z = conclude s (outcome n (suc s) (T .line s) a) T in Reached n seats (z .0) (fetch-noted s (z .1) (story w))
+        let z = conclude s (phase-result n (suc s) (T .line s) a) T in Reached n seats (z .0) (fetch-noted s (z .1) (story w))
     settled idle q f = absurd (true≢false f)
     settled stopped q f = absurd (true≢false f)
     settled (listing x) q f = let d = doing-at (listing x) q in settle-list n seats T s l come x q (d .0) (counted x q) (d .2)
@@ -123,7 +123,7 @@ module _ (n seats : ℕ) (n0 : 0 < n) (small : seats ≤ 65534) (V : View) (s i 
         weak false d = d
 
     take-reach : foreign (V .activity s) (record { state = answered false r; progress = V .line s i .progress }) ≡ false → let z = judge n s (V .activity s) r T in Reached n seats (z .0) (fetch-noted s (z .1) (story w))
-    take-reach f = subst (λ y. let z = conclude s y T in Reached n seats (z .0) (fetch-noted s (z .1) (story w))) (not-full r (outcome n (suc s) (T .line s) (V .activity s)) (sym (ap holds-no-room e) ∙ w .roomy s i)) (settled (V .activity s) refl f)
+    take-reach f = subst (λ y. let z = conclude s y T in Reached n seats (z .0) (fetch-noted s (z .1) (story w))) (not-full r (phase-result n (suc s) (T .line s) (V .activity s)) (sym (ap holds-no-room e) ∙ w .roomy s i)) (settled (V .activity s) refl f)
 
   by-state : (v : LineState) → V .line s i .state ≡ v → let z = fetch-line n s i (V .activity s) (V .line s i .progress) v V in Reached n seats (z .0) (fetch-noted s (z .1) (story w))
   by-state free e = still w

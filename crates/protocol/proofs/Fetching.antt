@@ -13,7 +13,7 @@ use Rattle.stores.specs.Provider.{Pair}
 use Rattle.protocol.specs.Answers.{on}
 use Rattle.protocol.specs.History.{History, Operation, Doing, resting, writing, reading, update, fetch-noted, wrote-by, read-by}
 use Rattle.protocol.specs.Lines.{is-free, restarted, restart-line}
-use Rattle.protocol.specs.Phases.{count, majority, done-lines, listed-on, largest-listed, found-on, version-in, newest-found, next-version, most, Outcome, goes-on, end-gathering, outcome}
+use Rattle.protocol.specs.Phases.{count, majority, done-lines, listed-on, largest-listed, found-on, version-in, newest-found, next-version, most, PhaseResult, goes-on, end-gathering, phase-result}
 use Rattle.protocol.specs.Seats.{Activity, idle, listing, gathering, storing}
 use Rattle.protocol.proofs.Arrangements.{Insert, Arranged, more, to-front, from-front, insert-under, ordered-inserted, ended-arranged}
 use Rattle.protocol.proofs.Decoding.{list-progress, store-progress, gather-progress, list-is-done, store-is-done, gather-is-done}
@@ -75,7 +75,7 @@ module _ (n seats : ℕ) (V : View) (s : ℕ) (l : s < seats) (w : Come n seats 
     opens-lost : (x : Operation) → own-now ≡ x ∷ [] → own-new ≡ [] → Insert x new old
     opens-lost x a b = opens-insert q (L .since) (L .since) o (w .ons) v (V .version) d (w .doing) x seats s l b a (λ i ne. sym (others i ne))
 
-  abbrev Settled : Outcome → Type 0
+  abbrev Settled : PhaseResult → Type 0
   Settled y = let z = conclude s y V in Reached n seats (z .0) (fetch-noted s (z .1) H)
 
   -- the phase goes on
@@ -131,7 +131,7 @@ module _ (n seats : ℕ) (V : View) (s : ℕ) (l : s < seats) (w : Come n seats 
   rest-arranged : own-now ≡ [] → Arranged (w .finished ++ opens q (L .since) (w .ons) (update (V .version) s (V .version s)) (update (w .doing) s resting) seats) (L .order)
   rest-arranged h = subst (λ m. Arranged (w .finished ++ m) (L .order)) (rest-kept h) (w .arranged)
 
-  pub settle-list : (x : Code) → V .activity s ≡ listing x → w .doing s ≡ writing x → done-lines (V .line s) n ≡ suc (w .ons s) → w .ons s < q → Settled (outcome n (suc s) (V .line s) (listing x))
+  pub settle-list : (x : Code) → V .activity s ≡ listing x → w .doing s ≡ writing x → done-lines (V .line s) n ≡ suc (w .ons s) → w .ons s < q → Settled (phase-result n (suc s) (V .line s) (listing x))
   settle-list x e dx cnt lt = cond-both (leb q (done-lines (V .line s) n)) _ _ Settled
       (λ t. let qu = quorum n V s st (w .match) (listing x) e (λ p. list-done (list-progress p)) list-is-done (leb-true _ _ t) in
       cond-both (leb 999999 (largest-listed (V .line s) n / 65536)) _ _ Settled
@@ -162,7 +162,7 @@ module _ (n seats : ℕ) (V : View) (s : ℕ) (l : s < seats) (w : Come n seats 
   abbrev read-op : ℕ → Option Code → Operation
   read-op v x = record { write = false; begun = L .since s; ended = L .clock; version = v; value = x }
 
-  pub settle-gather : (b : Bool) → V .activity s ≡ gathering b → w .doing s ≡ reading b → Settled (outcome n (suc s) (V .line s) (gathering b))
+  pub settle-gather : (b : Bool) → V .activity s ≡ gathering b → w .doing s ≡ reading b → Settled (phase-result n (suc s) (V .line s) (gathering b))
   settle-gather b e dx = cond-both (leb q (done-lines (V .line s) n)) _ _ Settled
       (λ t. ended-by b e dx (quorum n V s st (w .match) (gathering b) e (λ p. gather-done (gather-progress p)) gather-is-done (leb-true _ _ t)) (newest-found (V .line s) n) (picked n V s st (w .match) (gathering b) e n)
       (most-eq n V s st (w .match) (gathering b) e (λ p. version-of (gather-progress p)) (λ l. version-in (found-on l)) found-free (λ l h. ap (λ c. version-in (cond (c && l .progress .done) (l .progress .found) None)) h) ∙ sym (newest-most (V .line s) n)))
@@ -189,7 +189,7 @@ module _ (n seats : ℕ) (V : View) (s : ℕ) (l : s < seats) (w : Come n seats 
           (update (w .doing) s resting) (w .ons) (w .finished) (else-update (w .doing) resting) (λ i _. refl) (rest-arranged (own-read false dx _ _ _)) (update-same (w .doing) s resting))
 
   module _ (n0 : 0 < n) (small : seats ≤ 65534) where
-    pub settle-store : (b : Bool) (v : ℕ) (x : Code) → V .activity s ≡ storing b v x → DoingOk n (V .line s) (storing b v x) (V .version s) (w .doing s) (w .ons s) → Settled (outcome n (suc s) (V .line s) (storing b v x))
+    pub settle-store : (b : Bool) (v : ℕ) (x : Code) → V .activity s ≡ storing b v x → DoingOk n (V .line s) (storing b v x) (V .version s) (w .doing s) (w .ons s) → Settled (phase-result n (suc s) (V .line s) (storing b v x))
     settle-store false v x e dx = cond-both (leb q (done-lines (V .line s) n)) _ _ Settled
         (λ t. subst (λ d. Reached n seats (turn V s idle) (read-by s v (Some x) d H)) (sym dx)
         (go-to idle M.idle refl _ _ _ _ _ (S.ends s false v x (λ i. store-progress (now n V s st (w .match) (storing false v x) e i)) l (seat-eq n V s st (w .match) (storing false v x) e) (quorum n V s st (w .match) (storing false v x) e (λ p. store-done (store-progress p)) store-is-done (leb-true _ _ t)))

@@ -12,7 +12,7 @@ use Rattle.std.specs.shelf.Lists.{All}
 use Rattle.std.proofs.shelf.Elements.{all-weaker}
 use Rattle.std.proofs.shelf.Tests.{both-ways}
 use Rattle.protocol.specs.History.{Operation}
-use Rattle.protocol.specs.Law.{Each-two, Any, Rises, InTime, Shows, NotOld, NoneBefore}
+use Rattle.protocol.specs.Law.{Each-two, Any, VersionsRise, InTime, ShowLatest, NotOld, NoneBefore}
 use Rattle.protocol.specs.Phases.{count}
 use Rattle.protocol.proofs.Lists.{all-and, none-some}
 use Rattle.protocol.proofs.Model.{Code, idle, free}
@@ -39,10 +39,10 @@ abbrev pub ShowsBy : List Operation → Operation → Type 0
 ShowsBy order r = ((r .version ≡ 0) × (r .value ≡ None)) ⊎ Any (λ w. (w .write ≡ true) × (w .version ≡ r .version) × (w .value ≡ r .value) × (w .begun ≤ r .ended)) order
 
 pub record Register (seats : ℕ) (st : ModelState) (L : Trace) : Type 0 where
-  pub rising : Each-two Rises (L .order)
+  pub rising : Each-two VersionsRise (L .order)
   pub above : All (λ w. w .write ≡ true → 0 < w .version) (L .order)
   pub in-time : Each-two InTime (L .order)
-  pub shows : Shows 0 None (L .order)
+  pub shows : ShowLatest 0 None (L .order)
   pub plain-some : All (ShowsBy (L .order)) (L .plain)
   pub plain-new : All (NotOld (L .order)) (L .plain)
   pub plain-none : All (NoneBefore (L .order)) (L .plain)
@@ -60,7 +60,7 @@ none-later o [] p h = h
 none-later o (w ∷ l) p (inl z) = omega (arith, p .0 .strict (z .0), z .1)
 none-later o (w ∷ l) p (inr z) = none-later o l (p .1) z
 
-shows : (v : ℕ) (x : Option Code) (l : List Operation) → Each-two Before l → All (λ o. o .write ≡ true → v < o .version) l → All (Legal v x l) l → Shows v x l
+shows : (v : ℕ) (x : Option Code) (l : List Operation) → Each-two Before l → All (λ o. o .write ≡ true → v < o .version) l → All (Legal v x l) l → ShowLatest v x l
 shows v x [] p above h = tt
 shows v x (o ∷ l) p above h = go (shows (o .version) (o .value) l (p .1)) (shows v x l (p .1)) (o .write) refl
   where
@@ -73,8 +73,8 @@ shows v x (o ∷ l) p above h = go (shows (o .version) (o .value) l (p .1)) (sho
     here : o .write ≡ false → (o .version ≡ v) × (o .value ≡ x)
     here f = elim (h .0) [ inl z ↦ z | inr (inl z) ↦ absurd (both-ways (o .write) f (z .0)) | inr (inr z) ↦ absurd (none-later o l (p .0) z) ]
 
-    go : (All (λ y. y .write ≡ true → o .version < y .version) l → All (Legal (o .version) (o .value) l) l → Shows (o .version) (o .value) l) → (All (λ y. y .write ≡ true → v < y .version) l → All (Legal v x l) l → Shows v x l) →
-        (b : Bool) → o .write ≡ b → cond b (Shows (o .version) (o .value) l) ((o .version ≡ v) × (o .value ≡ x) × Shows v x l)
+    go : (All (λ y. y .write ≡ true → o .version < y .version) l → All (Legal (o .version) (o .value) l) l → ShowLatest (o .version) (o .value) l) → (All (λ y. y .write ≡ true → v < y .version) l → All (Legal v x l) l → ShowLatest v x l) →
+        (b : Bool) → o .write ≡ b → cond b (ShowLatest (o .version) (o .value) l) ((o .version ≡ v) × (o .value ≡ x) × ShowLatest v x l)
     go rest same true t = rest (all-weaker _ _ (λ y q. q .strict) l (p .0)) (after t)
     go rest same false f = (here f .0, here f .1, same (above .1) (later f))
 
@@ -114,7 +114,7 @@ register n seats n0 small st L r =
     let j = h .1 in
     let positive : All (λ w. w .write ≡ true → 0 < w .version) (L .order) = all-weaker _ _ (λ o q t. elim q [ inl z ↦ absurd (both-ways (o .write) (z .2) t) | inr z ↦ omega (arith, i .fresh (o .version) (z .0) (z .2) .0) ]) (L .order) (j .oks) in
     record {
-      rising = pairs-each Before Rises (λ a b q _ t. q .strict t) (L .order) (j .pairs);
+      rising = pairs-each Before VersionsRise (λ a b q _ t. q .strict t) (L .order) (j .pairs);
       above = positive;
       in-time = pairs-each Before InTime (λ a b q e. omega (arith, q .time (e .0), e .1)) (L .order) (j .pairs);
       shows = shows 0 None (L .order) (j .pairs) positive (all-weaker (OperationOk (st .given)) (Legal 0 None (L .order)) (λ o q. elim q [ inl z ↦ inl (z .0, z .1) | inr z ↦ inr (any-weaker _ _ (λ w a. (a .0, a .1, a .2 ∙ sym (z .1))) (L .order) (j .there (o .version) (z .0) (z .2))) ]) (L .order) (j .oks));

@@ -6,7 +6,7 @@ use Rattle.protocol.specs.Answers.{Answer, ok, on, dropped, refused}
 use Rattle.protocol.specs.History.{update}
 use Rattle.protocol.specs.Lines.{LineState, free, sent, answered, is-free, Progress, Line, restart-line}
 use Rattle.protocol.specs.Moves.{advance}
-use Rattle.protocol.specs.Phases.{Outcome, goes-on, turns, outcome}
+use Rattle.protocol.specs.Phases.{PhaseResult, goes-on, turns, phase-result}
 use Rattle.protocol.specs.Requests.{Reply, reply, served}
 use Rattle.protocol.specs.Seats.{Activity, idle, stopped, listing, gathering, storing, is-idle, is-stopped}
 use Rattle.protocol.specs.Stages.{foreign}
@@ -54,12 +54,12 @@ land s i l V = check (V .lost i) 12 V (land-line s i (l .progress) (l .state) V)
 abbrev pub freed : ℕ → ℕ → Progress → View → View
 freed s i p V = with-line V s i (record { state = free; progress = p })
 
-abbrev pub conclude : ℕ → Outcome → View → View × Answer
+abbrev pub conclude : ℕ → PhaseResult → View → View × Answer
 conclude s goes-on V = (V, on)
 conclude s (turns a y) V = (turn V s a, y)
 
 abbrev pub judge : ℕ → ℕ → Activity → Reply → View → View × Answer
-judge n s a r V = conclude s (unless-full r (outcome n (suc s) (V .line s) a)) V
+judge n s a r V = conclude s (unless-full r (phase-result n (suc s) (V .line s) a)) V
 
 abbrev pub fetch-line : ℕ → ℕ → ℕ → Activity → Progress → LineState → View → View × Answer
 fetch-line n s i a p free V = (V, refused 14)

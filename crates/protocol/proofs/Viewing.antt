@@ -14,7 +14,7 @@ use Rattle.protocol.specs.Answers.{Answer, ok, refused}
 use Rattle.protocol.specs.History.{update}
 use Rattle.protocol.specs.Lines.{LineState, free, sent, answered, is-free, Progress, Line, blank-line, restart-line}
 use Rattle.protocol.specs.Moves.{advance}
-use Rattle.protocol.specs.Phases.{counts, done-lines, listed-on, largest-listed, found-on, newer, newest-found, Outcome, goes-on, turns, end-listing, end-gathering, end-storing, majority, outcome}
+use Rattle.protocol.specs.Phases.{counts, done-lines, listed-on, largest-listed, found-on, newer, newest-found, PhaseResult, goes-on, turns, end-listing, end-gathering, end-storing, majority, phase-result}
 use Rattle.protocol.specs.Requests.{Reply, reply, served}
 use Rattle.protocol.specs.Seats.{Activity, idle, stopped, listing, gathering, storing, Seat, blank-seat, activity, is-idle, is-stopped, turned-to}
 use Rattle.protocol.specs.Stages.{foreign}
@@ -46,12 +46,12 @@ module _ (f g : ℕ → Line) where
   below-found zero h = refl
   below-found (suc n) h = ap₂ newer (below-found n (λ j l. h j (omega arith))) (ap found-on (h n (omega arith)))
 
-  below-outcome : (n s : ℕ) (a : Activity) → Below n → outcome n s f a ≡ outcome n s g a
-  below-outcome n s idle h = ap (λ k. cond (leb (majority n) k) goes-on goes-on) (below-count n h)
-  below-outcome n s stopped h = ap (λ k. cond (leb (majority n) k) goes-on goes-on) (below-count n h)
-  below-outcome n s (listing x) h = ap₂ (λ k t. cond (leb (majority n) k) (end-listing t s x) goes-on) (below-count n h) (below-key n h)
-  below-outcome n s (gathering b) h = ap₂ (λ k o. cond (leb (majority n) k) (end-gathering b o) goes-on) (below-count n h) (below-found n h)
-  below-outcome n s (storing b v x) h = ap (λ k. cond (leb (majority n) k) (end-storing b v x) goes-on) (below-count n h)
+  below-result : (n s : ℕ) (a : Activity) → Below n → phase-result n s f a ≡ phase-result n s g a
+  below-result n s idle h = ap (λ k. cond (leb (majority n) k) goes-on goes-on) (below-count n h)
+  below-result n s stopped h = ap (λ k. cond (leb (majority n) k) goes-on goes-on) (below-count n h)
+  below-result n s (listing x) h = ap₂ (λ k t. cond (leb (majority n) k) (end-listing t s x) goes-on) (below-count n h) (below-key n h)
+  below-result n s (gathering b) h = ap₂ (λ k o. cond (leb (majority n) k) (end-gathering b o) goes-on) (below-count n h) (below-found n h)
+  below-result n s (storing b v x) h = ap (λ k. cond (leb (majority n) k) (end-storing b v x) goes-on) (below-count n h)
 
 module _ (m n : ℕ) where
   abbrev pub lines-of : List Line → ℕ → ℕ → Line
@@ -197,7 +197,7 @@ module _ (m n : ℕ) where
       sized = record { seats = omega (arith, h .seats, length-set (C .seats) s (turned-to k (seat-at C s))); lines = omega (arith, h .lines, restart-long n s (C .lines)); row = h .row; flags = h .flags };
     }
 
-    concluded : (s : ℕ) (y : Outcome) → s < m → Agree (steps.conclude n s y C) (views.conclude s y W)
+    concluded : (s : ℕ) (y : PhaseResult) → s < m → Agree (steps.conclude n s y C) (views.conclude s y W)
     concluded s goes-on l = record { same = refl; says = refl; sized = h }
     concluded s (turns k a) l = turned s k a l
 
@@ -247,7 +247,7 @@ module _ (m n : ℕ) where
     frees-sized s i p k = lines-sized _ k (length-set (C .lines) (s * n + i) (record { state = free; progress = p }))
 
   judged : (C : State) (h : Sized C) (s : ℕ) (k : Activity) (r : Reply) → s < m → Agree (steps.judge n s k r C) (views.judge n s k r (view C))
-  judged C h s k r a = subst (λ y. Agree (steps.judge n s k r C) (views.conclude s (unless-full r y) (view C))) (below-outcome (line-at n (C .lines) s) (view C .line s) n (suc s) k (λ j l. sym (line-here (C .lines) s j a l))) (concluded C h s _ a)
+  judged C h s k r a = subst (λ y. Agree (steps.judge n s k r C) (views.conclude s (unless-full r y) (view C))) (below-result (line-at n (C .lines) s) (view C .line s) n (suc s) k (λ j l. sym (line-here (C .lines) s j a l))) (concluded C h s _ a)
 
   fetches-line : (C : State) (h : Sized C) (s i : ℕ) (k : Activity) (p : Progress) (w : LineState) → s < m → i < n → Agree (steps.fetch-line n s i k p w C) (views.fetch-line n s i k p w (view C))
   fetches-line C h s i k p free a b = still C h 14

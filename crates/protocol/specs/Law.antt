@@ -34,17 +34,17 @@ abbrev pub EndedBefore : ℕ → Operation → Type 0
 EndedBefore t a = (a .ended ≢ 0) × (a .ended < t)
 
 -- if both are writes, the version rises from a to b
-abbrev pub Rises : Operation → Operation → Type 0
-Rises a b = a .write ≡ true → b .write ≡ true → a .version < b .version
+abbrev pub VersionsRise : Operation → Operation → Type 0
+VersionsRise a b = a .write ≡ true → b .write ≡ true → a .version < b .version
 
 -- a may stand before b: b did not finish before a began
 abbrev pub InTime : Operation → Operation → Type 0
 InTime a b = EndedBefore (a .begun) b → ⊥
 
 -- Each read shows the latest write that stands before it; version v and value x are those of the latest write so far.
-abbrev pub Shows : ℕ → Option (List ℕ) → List Operation → Type 0
-Shows v x [] = Unit {0}
-Shows v x (o ∷ l) = cond (o .write) (Shows (o .version) (o .value) l) ((o .version ≡ v) × (o .value ≡ x) × Shows v x l)
+abbrev pub ShowLatest : ℕ → Option (List ℕ) → List Operation → Type 0
+ShowLatest v x [] = Unit {0}
+ShowLatest v x (o ∷ l) = cond (o .write) (ShowLatest (o .version) (o .value) l) ((o .version ≡ v) × (o .value ≡ x) × ShowLatest v x l)
 
 -- A plain read shows nothing, or a write that began before the read finished.
 abbrev pub ShowsSome : List Operation → Operation → Type 0
@@ -84,12 +84,12 @@ pub record Lawful (m n : ℕ) (calls : List Call) (answers : List Answer) (end :
   -- which has exactly the writes that have a version and the finished settled reads, each once;
   pub exactly : Shuffled (standing m n calls answers end) order
   -- writes stand in it by strictly rising version, and every version is above (0, 0);
-  pub rising : Each-two Rises order
+  pub rising : Each-two VersionsRise order
   pub above : All (λ w. w .write ≡ true → 0 < w .version) order
   -- an operation that finished before another began stands before it;
   pub in-time : Each-two InTime order
   -- each read in it shows the latest write that stands before it, or nothing if there is none;
-  pub shows : Shows 0 None order
+  pub shows : ShowLatest 0 None order
   -- a plain read shows a write that began before the read finished, or nothing,
   pub plain-some : All (ShowsSome order) (plain-reads calls answers)
   -- no write that finished before the plain read began stands after the one shown,

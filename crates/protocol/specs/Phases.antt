@@ -58,32 +58,32 @@ newest-found lines zero = None
 newest-found lines (suc n) = newer (newest-found lines n) (found-on (lines n))
 
 -- What a seat comes to: its phase goes on, or it turns to another activity, and its call gets an answer.
-pub data Outcome : Type 0 where
-  goes-on : Outcome
-  turns : Activity → Answer → Outcome
+pub data PhaseResult : Type 0 where
+  goes-on : PhaseResult
+  turns : Activity → Answer → PhaseResult
 
 -- Listing ends: the write gets the version after the largest key listed. At number 999,999 the versions are used up.
-abbrev pub end-listing : ℕ → ℕ → List ℕ → Outcome
+abbrev pub end-listing : ℕ → ℕ → List ℕ → PhaseResult
 end-listing k seat x = cond (leb 999999 (k / 65536)) (turns idle used) (turns (storing true (next-version k seat) x) on)
 
 -- Gathering ends: a read of nothing ends; a settled read goes on to store what it found; a plain read ends.
-abbrev pub end-gathering : Bool → Option Pair → Outcome
+abbrev pub end-gathering : Bool → Option Pair → PhaseResult
 end-gathering b None = turns idle read-none
 end-gathering true (Some p) = turns (storing false (p .version) (p .value)) on
 end-gathering false (Some p) = turns idle (read (p .version) (p .value))
 
 -- Storing ends, and with it the operation.
-abbrev pub end-storing : Bool → ℕ → List ℕ → Outcome
+abbrev pub end-storing : Bool → ℕ → List ℕ → PhaseResult
 end-storing true v x = turns idle (wrote v)
 end-storing false v x = turns idle (read v x)
 
 -- With a majority of the lines done the phase ends.
-abbrev pub ended : ℕ → ℕ → (ℕ → Line) → Activity → Outcome
-ended n seat lines idle = goes-on
-ended n seat lines stopped = goes-on
-ended n seat lines (listing x) = end-listing (largest-listed lines n) seat x
-ended n seat lines (gathering b) = end-gathering b (newest-found lines n)
-ended n seat lines (storing b v x) = end-storing b v x
+abbrev pub result-of : ℕ → ℕ → (ℕ → Line) → Activity → PhaseResult
+result-of n seat lines idle = goes-on
+result-of n seat lines stopped = goes-on
+result-of n seat lines (listing x) = end-listing (largest-listed lines n) seat x
+result-of n seat lines (gathering b) = end-gathering b (newest-found lines n)
+result-of n seat lines (storing b v x) = end-storing b v x
 
-abbrev pub outcome : ℕ → ℕ → (ℕ → Line) → Activity → Outcome
-outcome n seat lines a = cond (leb (majority n) (done-lines lines n)) (ended n seat lines a) goes-on
+abbrev pub phase-result : ℕ → ℕ → (ℕ → Line) → Activity → PhaseResult
+phase-result n seat lines a = cond (leb (majority n) (done-lines lines n)) (result-of n seat lines a) goes-on

@@ -7,7 +7,7 @@ use Rattle.stores.specs.Provider.{Provider}
 use Rattle.protocol.specs.Answers.{Call, begin-write, begin-read, post, land, fetch, stop, lose, Answer, ok, on, dropped, refused}
 use Rattle.protocol.specs.Lines.{LineState, free, sent, answered, is-free, Progress, Line}
 use Rattle.protocol.specs.Moves.{advance}
-use Rattle.protocol.specs.Phases.{Outcome, goes-on, turns, outcome}
+use Rattle.protocol.specs.Phases.{PhaseResult, goes-on, turns, phase-result}
 use Rattle.protocol.specs.Requests.{Reply, keys-are, got, accepted, no-room, reply, served}
 use Rattle.protocol.specs.Seats.{Activity, stopped, listing, gathering, activity, is-idle, is-stopped, turned-to}
 use Rattle.protocol.specs.Stages.{foreign, request-of}
@@ -72,18 +72,18 @@ looks-after k before after = cond (at-standing (before .stage) && not (after .do
 abbrev pub freed : ℕ → ℕ → ℕ → Progress → ℕ → State → State
 freed n s i p k C = record { seats = C .seats; lines = set (C .lines) (s * n + i) (record { state = free; progress = p }); row = C .row; lost = C .lost; looks = k }
 
-abbrev pub conclude : ℕ → ℕ → Outcome → State → State × Answer
+abbrev pub conclude : ℕ → ℕ → PhaseResult → State → State × Answer
 conclude n s goes-on C = (C, on)
 conclude n s (turns a y) C = (turn n s a C, y)
 
-abbrev pub unless-full : Reply → Outcome → Outcome
+abbrev pub unless-full : Reply → PhaseResult → PhaseResult
 unless-full (keys-are l) y = y
 unless-full (got o) y = y
 unless-full accepted y = y
 unless-full no-room y = goes-on
 
 abbrev pub judge : ℕ → ℕ → Activity → Reply → State → State × Answer
-judge n s a r C = conclude n s (unless-full r (outcome n (suc s) (line-at n (C .lines) s) a)) C
+judge n s a r C = conclude n s (unless-full r (phase-result n (suc s) (line-at n (C .lines) s) a)) C
 
 abbrev pub take-answer : ℕ → ℕ → ℕ → Activity → Reply → Progress → State → State × Answer
 take-answer n s i a r p C = judge n s a r (freed n s i (advance a r p) (looks-after (C .looks) p (advance a r p)) C)

@@ -1,0 +1,12 @@
+pub mod Requests
+pub mod Lines
+pub mod Seats
+pub mod Stages
+pub mod Answers
+pub mod Moves
+pub mod Phases
+pub mod State
+pub mod Steps
+pub mod History
+pub mod Law
+pub mod Examples

@@ -1,5 +1,3 @@
-ghost use mathlib.Core.Path.{_≡_};
-ghost use Rattle.values.specs.Rank.{rank, version-of};
 ghost use Rattle.banks_tests.specs.Slots.{slot-cells};
 use crate::slot::Held;
 use crate::slot::Slot;
@@ -9,13 +7,6 @@ use values::kind::Kind;
 use values::refusal::Refusal;
 use values::version::Key;
 use values::version::Version;
-
-// The key itself, as lists give it: by its rank. (A seat has 16 bits, so the rank says it.)
-fn ranked(key: Key) -> Key
-    ensures { λ r. ⌜ r ≡ version-of (rank key) ⌝ }
-{
-    key
-}
 
 pub impl<V: Kind> Store<V> for Slot<V> as SlotStore {
     ghost provider = { λ s. record { capacity = 1; cells = slot-cells (V·Kind .code) (s .held) } };
@@ -49,7 +40,7 @@ pub impl<V: Kind> Store<V> for Slot<V> as SlotStore {
                 if sheet.is_empty() {
                     return Err(Refusal::KeySheetTooShort);
                 }
-                sheet[0] = ranked(held.key);
+                sheet[0] = held.key.ranked();
                 Ok(1)
             }
             None => Ok(0),

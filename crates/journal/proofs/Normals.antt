@@ -16,12 +16,13 @@ use Rattle.values.specs.Sheets.{read-answer}
 use Rattle.stores.specs.Keyed.{find, put, without}
 use Rattle.stores.specs.Provider.{Cell, Provider, cell-key}
 use Rattle.stores.specs.Operations.{room-for, put-answer, put-after, remove-after}
+use Rattle.stores.proofs.KeyedLists.{without-absent, map-keys, find-map, put-map, without-map}
 use Rattle.journal.specs.Record.{put-record, remove-record}
 use Rattle.journal.specs.Codec.{Reads-put, Reads-remove}
 use Rattle.journal.specs.Log.{replay, appended}
 use Rattle.journal.specs.Contents.{Contents, raw, serves, put-log, remove-log, put-contents, remove-contents, pack-contents}
 use Rattle.journal.specs.Normal.{code-or, normal-cell, provider-of}
-use Rattle.journal.proofs.Maps.{ranks, none-is, without-absent}
+use Rattle.journal.proofs.Maps.{ranks, none-is}
 use Rattle.journal.proofs.Records.{step-put, step-remove}
 use Rattle.journal.proofs.Replays.{replay-live}
 use Rattle.journal.proofs.Appends.{replay-appended}
@@ -46,44 +47,23 @@ replay-remove w k s b =
     let m = replay (s .records) in
     ⊎-elim
     (λ t. ap replay (cond-true (isSome (find cell-key k m)) (appended (s .size) (remove-record k) (s .records)) (s .records) t) ∙ (replay-appended (s .size) (remove-record k) (s .records) ∙ step-remove w (remove-record k) k m b))
-    (λ t. ap replay (cond-false (isSome (find cell-key k m)) (appended (s .size) (remove-record k) (s .records)) (s .records) t) ∙ sym (without-absent k m (none-is (find cell-key k m) t)))
+    (λ t. ap replay (cond-false (isSome (find cell-key k m)) (appended (s .size) (remove-record k) (s .records)) (s .records) t) ∙ sym (without-absent cell-key k m (none-is (find cell-key k m) t)))
     (cases-bool (isSome (find cell-key k (replay (s .records)))))
 
 -- a map whose values are in their normal form
 
 module _ (f : List ℕ → List ℕ) where
   pub ranks-normal : (m : List Cell) → ranks (map (normal-cell f) m) ≡ ranks m
-  ranks-normal [] = refl
-  ranks-normal (c ∷ cs) = ap (λ ks. c .key ∷ ks) (ranks-normal cs)
+  ranks-normal m = map-keys cell-key cell-key (normal-cell f) (λ _. refl) m
 
   pub find-normal : (k : ℕ) (m : List Cell) → find cell-key k (map (normal-cell f) m) ≡ mapped (normal-cell f) (find cell-key k m)
-  find-normal k [] = refl
-  find-normal k (c ∷ cs) =
-      ⊎-elim
-      (λ p. cond-true (eqb (c .key) k) (Some (normal-cell f c)) (find cell-key k (map (normal-cell f) cs)) p ∙ sym (ap (mapped (normal-cell f)) (cond-true (eqb (c .key) k) (Some c) (find cell-key k cs) p)))
-      (λ p. cond-false (eqb (c .key) k) (Some (normal-cell f c)) (find cell-key k (map (normal-cell f) cs)) p ∙ (find-normal k cs ∙ sym (ap (mapped (normal-cell f)) (cond-false (eqb (c .key) k) (Some c) (find cell-key k cs) p))))
-      (cases-bool (eqb (c .key) k))
+  find-normal k m = find-map cell-key cell-key (normal-cell f) (λ _. refl) k m
 
   put-normal : (n : Cell) (m : List Cell) → map (normal-cell f) (put cell-key n m) ≡ put cell-key (normal-cell f n) (map (normal-cell f) m)
-  put-normal n [] = refl
-  put-normal n (c ∷ cs) =
-      let N = normal-cell f in
-      let g : Bool → List Cell → Bool → List Cell = λ b xs d. cond b (N c ∷ xs) (N n ∷ cond d (map N cs) (N c ∷ map N cs)) in
-      cond-both (ltb (c .key) (n .key)) (c ∷ put cell-key n cs) (n ∷ cond (eqb (c .key) (n .key)) cs (c ∷ cs)) (λ xs. map N xs ≡ g (ltb (c .key) (n .key)) (put cell-key (N n) (map N cs)) (eqb (c .key) (n .key)))
-      (λ p. ap (λ xs. N c ∷ xs) (put-normal n cs) ∙ sym (ap (λ b. g b (put cell-key (N n) (map N cs)) (eqb (c .key) (n .key))) p))
-      (λ p.
-      cond-both (eqb (c .key) (n .key)) cs (c ∷ cs) (λ xs. map N (n ∷ xs) ≡ g (ltb (c .key) (n .key)) (put cell-key (N n) (map N cs)) (eqb (c .key) (n .key)))
-      (λ q. sym (ap (λ b. g b (put cell-key (N n) (map N cs)) (eqb (c .key) (n .key))) p ∙ ap (λ d. g false (put cell-key (N n) (map N cs)) d) q))
-      (λ q. sym (ap (λ b. g b (put cell-key (N n) (map N cs)) (eqb (c .key) (n .key))) p ∙ ap (λ d. g false (put cell-key (N n) (map N cs)) d) q)))
+  put-normal n m = sym (put-map cell-key cell-key (normal-cell f) (λ _. refl) n m)
 
   without-normal : (k : ℕ) (m : List Cell) → map (normal-cell f) (without cell-key k m) ≡ without cell-key k (map (normal-cell f) m)
-  without-normal k [] = refl
-  without-normal k (c ∷ cs) =
-      let N = normal-cell f in
-      let g : Bool → List Cell → List Cell = λ b xs. cond b xs (N c ∷ xs) in
-      cond-both (eqb (c .key) k) (without cell-key k cs) (c ∷ without cell-key k cs) (λ xs. map N xs ≡ g (eqb (c .key) k) (without cell-key k (map N cs)))
-      (λ p. without-normal k cs ∙ sym (ap (λ b. g b (without cell-key k (map N cs))) p))
-      (λ p. ap (λ xs. N c ∷ xs) (without-normal k cs) ∙ sym (ap (λ b. g b (without cell-key k (map N cs))) p))
+  without-normal k m = sym (without-map cell-key cell-key (normal-cell f) (λ _. refl) k m)
 
 some-mapped : {X Y : Type 0} (g : X → Y) (o : Option X) → isSome (mapped g o) ≡ isSome o
 some-mapped g None = refl

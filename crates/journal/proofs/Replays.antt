@@ -18,7 +18,8 @@ use Rattle.journal.specs.Record.{bit-map, record-key, record-cell, is-put, who
 use Rattle.journal.specs.Log.{joined, sound, step, replay-on, replay, mentions, live}
 use Rattle.journal.specs.Walk.{seen, look-on}
 use Rattle.journal.proofs.Sizes.{size-le, whole-size}
-use Rattle.journal.proofs.Maps.{ranks, find-put, find-without, same-maps, ascends-put, ascends-without, length-put-new}
+use Rattle.stores.proofs.KeyedLists.{put-ascending, without-ascending}
+use Rattle.journal.proofs.Maps.{ranks, find-put, find-without, same-maps, length-put-new}
 
 find-step : (k : ℕ) (r : List ℕ) (m : List Cell) → find cell-key k (step r m) ≡ cond (eqb (record-key r) k) (seen r) (find cell-key k m)
 find-step k r m =
@@ -35,7 +36,7 @@ pub find-replay : (k : ℕ) (rs : List (List ℕ)) → find cell-key k (replay r
 find-replay k rs = find-replay-on k [] rs
 
 ascends-step : (r : List ℕ) (m : List Cell) → ascending (ranks m) ≡ true → ascending (ranks (step r m)) ≡ true
-ascends-step r m h = cond-both (is-put r) (put cell-key (record-cell r) m) (without cell-key (record-key r) m) (λ n. ascending (ranks n) ≡ true) (λ _. ascends-put (record-cell r) m h) (λ _. ascends-without (record-key r) m h)
+ascends-step r m h = cond-both (is-put r) (put cell-key (record-cell r) m) (without cell-key (record-key r) m) (λ n. ascending (ranks n) ≡ true) (λ _. put-ascending cell-key (record-cell r) m h) (λ _. without-ascending cell-key (record-key r) m h)
 
 pub ascends-replay : (m : List Cell) (rs : List (List ℕ)) → ascending (ranks m) ≡ true → ascending (ranks (replay-on m rs)) ≡ true
 ascends-replay m [] h = h

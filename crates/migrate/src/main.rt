@@ -1,6 +1,10 @@
-// Reads secrets from standard input into one provider, copies that provider into another, and says what it did.
+// Reads secrets from standard input into a table, copies the table into a log, and the log back into a second table, and
+// says what it did.
 mod parse;
 
+use journal::canonical::SecretCanonical;
+use journal::driver::JournalStore;
+use journal::journal::Journal;
 use parse::Request;
 use parse::parse;
 use std::io;
@@ -19,8 +23,11 @@ use values::secrets::SecretKind;
 use values::version::Key;
 use values::version::Version;
 
-// the most keys that a table holds
+// the most keys that a provider holds
 const CAPACITY: usize = 32;
+
+// the bytes of a log that holds so many secrets: 62 for the longest record of each, and 62 to append one
+const LOG_BYTES: usize = 2046;
 
 // What becomes of a request.
 #[derive(Clone, Copy)]
@@ -91,33 +98,103 @@ fn same_at<S: Store<Secret>, T: Store<Secret>>(one: &S, two: &T, key: Key) -> bo
     }
 }
 
-// Compares two providers at each of these keys, and prints each key.
-fn compare<S: Store<Secret>, T: Store<Secret>>(
+// Compares a table, the log and the table that it was copied back into at each of these keys, and prints each key.
+fn compare<S: Store<Secret>, L: Store<Secret>, T: Store<Secret>>(
     rt: &LibcRuntime,
-    one: &S,
-    two: &T,
+    first: &S,
+    log: &L,
+    second: &T,
     keys: &[Key],
 ) -> io::Result<()> {
     let mut different = 0usize;
     for key in keys {
         let Key { number, seat } = *key;
-        if same_at(one, two, *key) {
-            println!(rt, "key {number} {seat}: the same in both")?;
+        if same_at(first, log, *key) && same_at(first, second, *key) {
+            println!(rt, "key {number} {seat}: the same in all three")?;
         } else {
             different = different.saturating_add(1);
             println!(rt, "key {number} {seat}: DIFFERENT")?;
         }
     }
-    let first = one.count();
-    let second = two.count();
-    if different == 0 && first == second {
+    let (a, b, c) = (first.count(), log.count(), second.count());
+    if different == 0 && a == b && a == c {
         println!(rt, "the copies agree")
     } else {
         println!(
             rt,
-            "THE COPIES DIFFER: {different} keys, {first} keys against {second}"
+            "THE COPIES DIFFER: {different} keys; {a}, {b} and {c} keys are held"
         )
     }
+}
+
+// Copies one provider into another, and says how many keys were copied.
+fn copy_to<S: Store<Secret>, T: Store<Secret>>(
+    rt: &LibcRuntime,
+    from: &S,
+    to: &mut T,
+    name: &str,
+) -> io::Result<()> {
+    let mut keys = [Key::STANDING; CAPACITY];
+    let count = from.count();
+    match copy(from, to, &mut keys) {
+        Ok(copied) => println!(rt, "{copied} of {count} keys copied to {name}"),
+        Err(refusal) => {
+            let by = refusal.number();
+            println!(rt, "nothing copied to {name}: refused by {by}: {refusal}")
+        }
+    }
+}
+
+// Puts what a provider holds under these keys into the log. Answers how often the log was packed to make room: a put that
+// needs no packing makes the log longer.
+fn put_again<S: Store<Secret>>(
+    from: &S,
+    log: &mut Journal,
+    keys: &[Key],
+) -> Result<usize, Refusal> {
+    let mut packings = 0usize;
+    for key in keys {
+        let before = log.used();
+        if let Some(stored) = from.get(*key) {
+            log.put(*key, stored.version, stored.value)?;
+        }
+        if log.used() < before {
+            packings = packings.saturating_add(1);
+        }
+    }
+    Ok(packings)
+}
+
+// Puts all keys into the log once more, as a migration that is run again does, then packs the log; says how many bytes of
+// it are used.
+fn refresh<S: Store<Secret>>(
+    rt: &LibcRuntime,
+    from: &S,
+    log: &mut Journal,
+    keys: &[Key],
+) -> io::Result<()> {
+    let used = log.used();
+    println!(rt, "the log uses {used} of {LOG_BYTES} bytes")?;
+    match put_again(from, log, keys) {
+        Ok(packings) => println!(
+            rt,
+            "all keys put into the log again: it was packed {packings} times to make room"
+        )?,
+        Err(refusal) => {
+            let by = refusal.number();
+            println!(
+                rt,
+                "not all keys put into the log again: refused by {by}: {refusal}"
+            )?
+        }
+    }
+    let before = log.used();
+    log.pack();
+    let after = log.used();
+    println!(
+        rt,
+        "the log packed: {before} bytes used before, {after} after"
+    )
 }
 
 fn main(rt: LibcRuntime) -> io::Result<()> {
@@ -126,28 +203,25 @@ fn main(rt: LibcRuntime) -> io::Result<()> {
         version: Version::NONE,
         value: SecretKind::blank(),
     };
-    let mut first = [blank; CAPACITY];
-    let mut second = [blank; CAPACITY];
-    let mut from = Table::new(&mut first);
-    let mut to = Table::new(&mut second);
-    let secrets = load(&rt, &mut from)?;
-    let count = from.count();
+    let mut entries = [blank; CAPACITY];
+    let mut bytes = [0; LOG_BYTES];
+    let mut more_entries = [blank; CAPACITY];
+    let mut first = Table::new(&mut entries);
+    let mut log = Journal::new::<Secret>(&mut bytes);
+    let mut second = Table::new(&mut more_entries);
+    let secrets = load(&rt, &mut first)?;
+    let count = first.count();
     println!(
         rt,
-        "{secrets} secrets read; {count} keys in the first provider"
+        "{secrets} secrets read; {count} keys in the first table"
     )?;
-    let mut keys = [Key::STANDING; CAPACITY];
-    match copy(&from, &mut to, &mut keys) {
-        Err(refusal) => {
-            let by = refusal.number();
-            println!(rt, "nothing was copied: refused by {by}: {refusal}")
-        }
-        Ok(copied) => {
-            println!(rt, "{copied} of {count} keys copied to the second provider")?;
-            if count > CAPACITY {
-                return Ok(());
-            }
-            compare(&rt, &from, &to, &keys[0..count])
-        }
+    let mut sheet = [Key::STANDING; CAPACITY];
+    if first.list(&mut sheet).is_err() || count > CAPACITY {
+        return Ok(());
     }
+    let keys = &sheet[0..count];
+    copy_to(&rt, &first, &mut log, "the log")?;
+    refresh(&rt, &first, &mut log, keys)?;
+    copy_to(&rt, &log, &mut second, "the second table")?;
+    compare(&rt, &first, &log, &second, keys)
 }

@@ -17,7 +17,7 @@ use Rattle.stores.specs.Provider.{Pair, Cell, Provider, cell-key}
 use Rattle.protocol.specs.Lines.{Progress}
 use Rattle.protocol.specs.Moves.{largest-key, older-keys, mark-after, remove-or-put, to-stage, advance}
 use Rattle.protocol.specs.Requests.{Request, list-keys, get-key, put-cell, remove-key, got, reply, served}
-use Rattle.protocol.specs.Law.{found-no-room}
+use Rattle.protocol.specs.Law.{is-refusal}
 use Rattle.protocol.specs.Seats.{listing, gathering, storing}
 use Rattle.protocol.specs.Stages.{request-of}
 use Rattle.protocol.specs.declared.stage.Stage.{Stage}
@@ -155,7 +155,7 @@ same-capacity (get-key k) d = refl
 same-capacity (put-cell c) d = refl
 same-capacity (remove-key k) d = refl
 
-pub reply-roomy : (q : Request) (d : Provider) → Roomy q d → found-no-room (reply q d) ≡ false
+pub reply-roomy : (q : Request) (d : Provider) → Roomy q d → is-refusal (reply q d) ≡ false
 reply-roomy list-keys d l = refl
 reply-roomy (get-key k) d l = refl
 reply-roomy (put-cell c) d l = rw (room c d l) refl

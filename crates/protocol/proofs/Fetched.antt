@@ -7,11 +7,11 @@ use Rattle.std.specs.declared.option.Option.the-variants.{None}
 use Rattle.std.proofs.shelf.Tests.{cond-both, true≢false}
 use Rattle.protocol.specs.Answers.{Answer}
 use Rattle.protocol.specs.History.{fetch-noted}
-use Rattle.protocol.specs.Law.{found-no-room, holds-no-room}
+use Rattle.protocol.specs.Law.{is-refusal, holds-refusal}
 use Rattle.protocol.specs.Lines.{LineState, free, sent, answered, is-free, Progress, Line}
 use Rattle.protocol.specs.Moves.{advance}
 use Rattle.protocol.specs.Phases.{counts, done-lines, PhaseResult, phase-result}
-use Rattle.protocol.specs.Requests.{Reply, keys-are, got, accepted, no-room}
+use Rattle.protocol.specs.Requests.{Reply, keys-are, got, accepted, refused-by}
 use Rattle.protocol.specs.Seats.{Activity, idle, stopped, listing, gathering, storing, is-stopped}
 use Rattle.protocol.specs.Stages.{foreign}
 use Rattle.protocol.specs.Steps.{unless-full}
@@ -30,11 +30,11 @@ use Rattle.protocol.proofs.Updates.{update-two-map, update-two-row, update-two
 use Rattle.protocol.proofs.View.{View, freed, conclude, judge, fetch-line, fetch}
 
 -- a put found room
-not-full : (r : Reply) (y : PhaseResult) → found-no-room r ≡ false → y ≡ unless-full r y
+not-full : (r : Reply) (y : PhaseResult) → is-refusal r ≡ false → y ≡ unless-full r y
 not-full (keys-are l) y h = refl
 not-full (got o) y h = refl
 not-full accepted y h = refl
-not-full no-room y h = absurd (true≢false h)
+not-full (refused-by e) y h = absurd (true≢false h)
 
 module _ (n seats : ℕ) (n0 : 0 < n) (small : seats ≤ 65534) (V : View) (s i : ℕ) (l : s < seats) (li : i < n) (w : Come n seats V Always) where
   inv : Invariant n seats (w .st)
@@ -123,7 +123,7 @@ module _ (n seats : ℕ) (n0 : 0 < n) (small : seats ≤ 65534) (V : View) (s i 
         weak false d = d
 
     take-reach : foreign (V .activity s) (record { state = answered false r; progress = V .line s i .progress }) ≡ false → let z = judge n s (V .activity s) r T in Reached n seats (z .0) (fetch-noted s (z .1) (story w))
-    take-reach f = subst (λ y. let z = conclude s y T in Reached n seats (z .0) (fetch-noted s (z .1) (story w))) (not-full r (phase-result n (suc s) (T .line s) (V .activity s)) (sym (ap holds-no-room e) ∙ w .roomy s i)) (settled (V .activity s) refl f)
+    take-reach f = subst (λ y. let z = conclude s y T in Reached n seats (z .0) (fetch-noted s (z .1) (story w))) (not-full r (phase-result n (suc s) (T .line s) (V .activity s)) (sym (ap holds-refusal e) ∙ w .roomy s i)) (settled (V .activity s) refl f)
 
   by-state : (v : LineState) → V .line s i .state ≡ v → let z = fetch-line n s i (V .activity s) (V .line s i .progress) v V in Reached n seats (z .0) (fetch-noted s (z .1) (story w))
   by-state free e = still w

@@ -17,7 +17,7 @@ use Rattle.std.proofs.shelf.Tests.{cond-both, leb-true, and-parts, true≢false
 use Rattle.stores.specs.Provider.{Provider}
 use Rattle.protocol.specs.Answers.{Call, begin-write, begin-read, post, land, fetch, stop, lose, Answer}
 use Rattle.protocol.specs.History.{History, open-writes, Doing, resting, writing, reading, begin-noted, fetch-noted, noted, next-call, history, no-calls}
-use Rattle.protocol.specs.Law.{Lawful, Opened, Law, answers, end, holds-no-room, NotOld, NoneBefore}
+use Rattle.protocol.specs.Law.{Lawful, Opened, Law, answers, end, holds-refusal, NotOld, NoneBefore}
 use Rattle.protocol.specs.Lines.{Line, blank-line}
 use Rattle.protocol.specs.Lines as lines
 use Rattle.protocol.specs.Phases.{majority}
@@ -132,7 +132,7 @@ module _ (m n : ℕ) (n0 : 0 < n) (small : m ≤ 65534) where
         finished = [];
         arranged = subst (λ l. Arranged l []) (sym (opens-none (majority n) (λ s. 0) (λ s. 0) (view m n C .version) m)) done;
         doings = λ s _. subst (λ a. DoingOk n (view m n C .line s) a (view m n C .version s) resting 0) (sym (idle-at s)) refl;
-        roomy = λ s i. ap holds-no-room (free-at s i);
+        roomy = λ s i. ap holds-refusal (free-at s i);
         large = λ i l. all-getD (λ (p : Provider). (p .cells ≡ []) × (m + 2 ≤ p .capacity)) (C .row) i no-provider (omega (arith, h .row)) (h .empty) .1;
       };
       alike = record { clock = refl; since = λ s. refl; doing = λ s. refl; ons = λ s. refl; finished = refl; plain = refl };
@@ -140,14 +140,14 @@ module _ (m n : ℕ) (n0 : 0 < n) (small : m ≤ 65534) where
 
   -- what a sound state and history say
   module _ (cs : List Call) (as′ : List Answer) (E : State) (h : Sound E (history cs as′ no-calls)) where
-    line-roomy : (k : ℕ) → k < m * n → holds-no-room (getD (E .lines) k blank-line .state) ≡ false
+    line-roomy : (k : ℕ) → k < m * n → holds-refusal (getD (E .lines) k blank-line .state) ≡ false
     line-roomy k l =
         let i = k % n in
         let s = k / n in
         let e : s * n + i ≡ k = omega (arith, mod-add-div' k n) in
         let li : i < n = mod-lt k n0 in
         let ls : s < m = div-lt-iff-lt-mul n0 .1 l in
-        subst (λ k. holds-no-room (getD (E .lines) k blank-line .state) ≡ false) e (subst (λ (l : Line). holds-no-room (l .state) ≡ false) (line-here m n (E .lines) s i ls li) (h .come .roomy s i))
+        subst (λ k. holds-refusal (getD (E .lines) k blank-line .state) ≡ false) e (subst (λ (l : Line). holds-refusal (l .state) ≡ false) (line-here m n (E .lines) s i ls li) (h .come .roomy s i))
 
     lawful : Lawful m n cs as′ E
     lawful =
@@ -167,7 +167,7 @@ module _ (m n : ℕ) (n0 : 0 < n) (small : m ≤ 65534) where
           plain-new = subst (All (NotOld (w .trace .order))) same (r .plain-new);
           plain-none = subst (All (NoneBefore (w .trace .order))) same (r .plain-none);
           few-keys = all-from-getD _ (E .row) no-provider (λ i _. subst (λ c. length c ≤ m + 2) (w .match .cells i) (r .few-keys i));
-          roomy = all-from-getD _ (take (m * n) (E .lines)) blank-line (λ i l. let b : i < m * n = omega (arith, length-take (m * n) (E .lines)) in subst (λ (l : Line). holds-no-room (l .state) ≡ false) (sym (getD-take (m * n) (E .lines) i blank-line b)) (line-roomy i b));
+          roomy = all-from-getD _ (take (m * n) (E .lines)) blank-line (λ i l. let b : i < m * n = omega (arith, length-take (m * n) (E .lines)) in subst (λ (l : Line). holds-refusal (l .state) ≡ false) (sym (getD-take (m * n) (E .lines) i blank-line b)) (line-roomy i b));
         }
 
 pub law : Law

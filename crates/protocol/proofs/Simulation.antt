@@ -7,7 +7,7 @@ use Prim.Native.Nat.{ℕ, zero, suc, _+_, _≤_, _<_}
 use Rattle.std.specs.declared.option.Option.{Option}
 use Rattle.stores.specs.Provider.{Provider}
 use Rattle.protocol.specs.History.{History, Operation, Doing, resting, writing, reading, update}
-use Rattle.protocol.specs.Law.{holds-no-room}
+use Rattle.protocol.specs.Law.{holds-refusal}
 use Rattle.protocol.specs.Lines.{LineState, free, sent, answered, is-free, stale-state, Progress, Line, restarted, restart-line}
 use Rattle.protocol.specs.Moves.{advance}
 use Rattle.protocol.specs.Phases.{count, majority, counts, done-lines}
@@ -75,7 +75,7 @@ pub record Come (n seats : ℕ) (V : View) (but : ℕ → Type 0) : Type 0 where
   pub finished : List Operation
   pub arranged : Arranged (finished ++ opens (majority n) (trace .since) ons (V .version) doing seats) (trace .order)
   pub doings : (s : ℕ) → but s → DoingOk n (V .line s) (V .activity s) (V .version s) (doing s) (ons s)
-  pub roomy : (s i : ℕ) → holds-no-room (V .line s i .state) ≡ false
+  pub roomy : (s i : ℕ) → holds-refusal (V .line s i .state) ≡ false
   pub large : (i : ℕ) → i < n → seats + 2 ≤ V .provider i .capacity
 
 abbrev pub Always : ℕ → Type 0
@@ -149,16 +149,16 @@ enter-match V st m s a q e g low floor highest latest = record {
   cells = m .cells;
 }
 
-stale-roomy : (w : LineState) → holds-no-room w ≡ false → holds-no-room (stale-state w) ≡ false
+stale-roomy : (w : LineState) → holds-refusal w ≡ false → holds-refusal (stale-state w) ≡ false
 stale-roomy free h = refl
 stale-roomy (sent b r) h = refl
 stale-roomy (answered b r) h = h
 
-pub turn-roomy : (V : View) (s : ℕ) → ((s i : ℕ) → holds-no-room (V .line s i .state) ≡ false) → (o i : ℕ) → holds-no-room (update (V .line) s (λ i. restart-line (V .line s i)) o i .state) ≡ false
-turn-roomy V s h = at1 (λ o ls. (i : ℕ) → holds-no-room (ls i .state) ≡ false) (V .line) s (λ i. restart-line (V .line s i)) (λ i. stale-roomy (V .line s i .state) (h s i)) (λ o _. h o)
+pub turn-roomy : (V : View) (s : ℕ) → ((s i : ℕ) → holds-refusal (V .line s i .state) ≡ false) → (o i : ℕ) → holds-refusal (update (V .line) s (λ i. restart-line (V .line s i)) o i .state) ≡ false
+turn-roomy V s h = at1 (λ o ls. (i : ℕ) → holds-refusal (ls i .state) ≡ false) (V .line) s (λ i. restart-line (V .line s i)) (λ i. stale-roomy (V .line s i .state) (h s i)) (λ o _. h o)
 
-pub line-roomy : (V : View) (s i : ℕ) (l : Line) → holds-no-room (l .state) ≡ false → ((s i : ℕ) → holds-no-room (V .line s i .state) ≡ false) → (o j : ℕ) → holds-no-room (update-two (V .line) s i l o j .state) ≡ false
-line-roomy V s i l a h = at-line (λ o j l. holds-no-room (l .state) ≡ false) (V .line) s i l a h
+pub line-roomy : (V : View) (s i : ℕ) (l : Line) → holds-refusal (l .state) ≡ false → ((s i : ℕ) → holds-refusal (V .line s i .state) ≡ false) → (o j : ℕ) → holds-refusal (update-two (V .line) s i l o j .state) ≡ false
+line-roomy V s i l a h = at-line (λ o j l. holds-refusal (l .state) ≡ false) (V .line) s i l a h
 
 -- no line counts in a phase that starts
 never-counts : (l : Line) → counts (restart-line l) ≡ false

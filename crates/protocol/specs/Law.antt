@@ -14,7 +14,7 @@ use Rattle.protocol.specs.History.{Operation, no-calls, history, open-writes}
 use Rattle.protocol.specs.Lines.{LineState, free, sent, answered, Line, blank-line}
 use Rattle.protocol.specs.Lines as st
 use Rattle.protocol.specs.Phases.{majority}
-use Rattle.protocol.specs.Requests.{Reply, keys-are, got, accepted, no-room}
+use Rattle.protocol.specs.Requests.{Reply, keys-are, got, accepted, refused-by}
 use Rattle.protocol.specs.State.{State, seat-at}
 use Rattle.protocol.specs.Steps.{step}
 use Rattle.protocol.specs.declared.phase.Phase.the-variants.{Idle}
@@ -58,17 +58,17 @@ NotOld order r = All (λ w. w .write ≡ true → EndedBefore (r .begun) w → w
 abbrev pub NoneBefore : List Operation → Operation → Type 0
 NoneBefore order r = r .version ≡ 0 → All (λ w. w .write ≡ true → EndedBefore (r .begun) w → ⊥) order
 
--- a line holds the answer that a put found no room
-abbrev pub found-no-room : Reply → Bool
-found-no-room (keys-are l) = false
-found-no-room (got o) = false
-found-no-room accepted = false
-found-no-room no-room = true
+-- a line holds a refusal: a put found no room
+abbrev pub is-refusal : Reply → Bool
+is-refusal (keys-are l) = false
+is-refusal (got o) = false
+is-refusal accepted = false
+is-refusal (refused-by e) = true
 
-abbrev pub holds-no-room : LineState → Bool
-holds-no-room free = false
-holds-no-room (sent b q) = false
-holds-no-room (answered b r) = found-no-room r
+abbrev pub holds-refusal : LineState → Bool
+holds-refusal free = false
+holds-refusal (sent b q) = false
+holds-refusal (answered b r) = is-refusal r
 
 -- the writes that have a version, and the settled reads that have finished
 abbrev pub standing : ℕ → ℕ → List Call → List Answer → State → List Operation
@@ -99,7 +99,7 @@ pub record Lawful (m n : ℕ) (calls : List Call) (answers : List Answer) (end :
   -- each provider holds at most m + 2 keys,
   pub few-keys : All (λ (p : Provider). length (p .cells) ≤ m + 2) (end .row)
   -- and no line holds the answer that a put found no room.
-  pub roomy : All (λ (l : Line). holds-no-room (l .state) ≡ false) (take (m * n) (end .lines))
+  pub roomy : All (λ (l : Line). holds-refusal (l .state) ≡ false) (take (m * n) (end .lines))
 
 -- the answers to a list of calls, and the state that the calls lead to
 abbrev pub answers : ℕ → ℕ → State → List Call → List Answer

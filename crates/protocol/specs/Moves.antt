@@ -6,7 +6,7 @@ use lib.ListN.{drop}
 use Rattle.std.specs.declared.option.Option.{Option}
 use Rattle.std.specs.declared.option.Option.the-variants.{Some, None}
 use Rattle.stores.specs.Provider.{Pair}
-use Rattle.protocol.specs.Requests.{Reply, keys-are, got, accepted, no-room}
+use Rattle.protocol.specs.Requests.{Reply, keys-are, got, accepted, refused-by}
 use Rattle.protocol.specs.Lines.{Progress}
 use Rattle.protocol.specs.Seats.{Activity, idle, stopped, listing, gathering, storing}
 use Rattle.protocol.specs.declared.stage.Stage.{Stage}
@@ -55,7 +55,7 @@ abbrev pub advance-listing : Reply → Progress → Progress
 advance-listing (keys-are l) p = finished (keep-list l p)
 advance-listing (got o) p = p
 advance-listing accepted p = p
-advance-listing no-room p = p
+advance-listing (refused-by e) p = p
 
 -- Storing version v: list; remove the older temporary keys, one by one; put under the standing key; and, if there was no
 -- temporary key or the largest was below v, put under v's own key and then remove that largest one, if any.
@@ -68,13 +68,13 @@ abbrev pub after-list : Reply → Progress → Progress
 after-list (keys-are l) p = remove-or-put (older-keys l) (keep-list l p)
 after-list (got o) p = p
 after-list accepted p = p
-after-list no-room p = p
+after-list (refused-by e) p = p
 
 abbrev pub after-put : Reply → Progress → Progress → Progress
 after-put (keys-are l) p next = p
 after-put (got o) p next = p
 after-put accepted p next = next
-after-put no-room p next = p
+after-put (refused-by e) p next = p
 
 abbrev pub advance-storing : ℕ → Stage → Reply → Progress → Progress
 advance-storing v at.List r p = after-list r p
@@ -91,21 +91,21 @@ abbrev pub gather-list : Reply → Progress → Progress
 gather-list (keys-are l) p = cond (eqb (largest-key l) 0) (finished-with None (keep-list l p)) (to-stage at.GetLargest (set-mark (keep-list l p)))
 gather-list (got o) p = p
 gather-list accepted p = p
-gather-list no-room p = p
+gather-list (refused-by e) p = p
 
 abbrev pub gather-largest : Reply → Progress → Progress
 gather-largest (keys-are l) p = p
 gather-largest (got None) p = to-stage at.GetStanding p
 gather-largest (got (Some x)) p = finished-with (Some x) p
 gather-largest accepted p = p
-gather-largest no-room p = p
+gather-largest (refused-by e) p = p
 
 abbrev pub gather-standing : Reply → Progress → Progress
 gather-standing (keys-are l) p = p
 gather-standing (got None) p = to-stage at.List p
 gather-standing (got (Some x)) p = cond (leb (p .mark) (x .version)) (finished-with (Some x) p) (to-stage at.List p)
 gather-standing accepted p = p
-gather-standing no-room p = p
+gather-standing (refused-by e) p = p
 
 abbrev pub advance-gathering : Stage → Reply → Progress → Progress
 advance-gathering at.List r p = gather-list r p

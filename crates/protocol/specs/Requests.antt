@@ -14,16 +14,16 @@ pub data Request : Type 0 where
   remove-key : ℕ → Request
 
 -- What a provider can answer: its keys; the pair of a key, if there is one; that it did what was asked;
--- or that a put found no room, which is refusal 15.
+-- or a refusal, by its number: a put that finds no room is refused by 15.
 pub data Reply : Type 0 where
   keys-are : List ℕ → Reply
   got : Option Pair → Reply
   accepted : Reply
-  no-room : Reply
+  refused-by : ℕ → Reply
 
 abbrev pub put-reply : Result (Unit {0}) ℕ → Reply
 put-reply (Ok u) = accepted
-put-reply (Err e) = no-room
+put-reply (Err e) = refused-by e
 
 -- what a provider answers to a request
 abbrev pub reply : Request → Provider → Reply

@@ -3,7 +3,7 @@ use mathlib.Core.List.{List, [], _∷_}
 use Prim.Native.Nat.{ℕ}
 use lib.Dec.{eqb}
 use lib.ListN.{getD}
-use Rattle.protocol.specs.Requests.{Request, list-keys, get-key, put-cell, remove-key, Reply, keys-are, got, accepted, no-room}
+use Rattle.protocol.specs.Requests.{Request, list-keys, get-key, put-cell, remove-key, Reply, keys-are, got, accepted, refused-by}
 use Rattle.protocol.specs.Lines.{LineState, free, sent, answered, is-free, Progress, Line}
 use Rattle.protocol.specs.Seats.{Activity, idle, stopped, listing, gathering, storing}
 use Rattle.protocol.specs.declared.stage.Stage.{Stage}
@@ -80,10 +80,10 @@ has-key at.GetStanding p = true
 
 -- Whether an answer is of the kind of a request; 15 answers a put alone.
 abbrev pub suits : Request → Reply → Bool
-suits list-keys r = elim r [ keys-are l ↦ true | got o ↦ false | accepted ↦ false | no-room ↦ false ]
-suits (get-key k) r = elim r [ keys-are l ↦ false | got o ↦ true | accepted ↦ false | no-room ↦ false ]
-suits (put-cell c) r = elim r [ keys-are l ↦ false | got o ↦ false | accepted ↦ true | no-room ↦ true ]
-suits (remove-key k) r = elim r [ keys-are l ↦ false | got o ↦ false | accepted ↦ true | no-room ↦ false ]
+suits list-keys r = elim r [ keys-are l ↦ true | got o ↦ false | accepted ↦ false | refused-by e ↦ false ]
+suits (get-key k) r = elim r [ keys-are l ↦ false | got o ↦ true | accepted ↦ false | refused-by e ↦ false ]
+suits (put-cell c) r = elim r [ keys-are l ↦ false | got o ↦ false | accepted ↦ true | refused-by e ↦ eqb e 15 ]
+suits (remove-key k) r = elim r [ keys-are l ↦ false | got o ↦ false | accepted ↦ true | refused-by e ↦ false ]
 
 abbrev pub state-suits : Request → LineState → Bool
 state-suits q free = true

@@ -8,7 +8,7 @@ use Rattle.protocol.specs.Answers.{Call, begin-write, begin-read, post, land, 
 use Rattle.protocol.specs.Lines.{LineState, free, sent, answered, is-free, Progress, Line}
 use Rattle.protocol.specs.Moves.{advance}
 use Rattle.protocol.specs.Phases.{PhaseResult, goes-on, turns, phase-result}
-use Rattle.protocol.specs.Requests.{Reply, keys-are, got, accepted, no-room, reply, served}
+use Rattle.protocol.specs.Requests.{Reply, keys-are, got, accepted, refused-by, reply, served}
 use Rattle.protocol.specs.Seats.{Activity, stopped, listing, gathering, activity, is-idle, is-stopped, turned-to}
 use Rattle.protocol.specs.Stages.{foreign, request-of}
 use Rattle.protocol.specs.State.{State, seat-at, line-at, provider-at, lost-at, with-line, turn}
@@ -80,7 +80,7 @@ abbrev pub unless-full : Reply → PhaseResult → PhaseResult
 unless-full (keys-are l) y = y
 unless-full (got o) y = y
 unless-full accepted y = y
-unless-full no-room y = goes-on
+unless-full (refused-by e) y = goes-on
 
 abbrev pub judge : ℕ → ℕ → Activity → Reply → State → State × Answer
 judge n s a r C = conclude n s (unless-full r (phase-result n (suc s) (line-at n (C .lines) s) a)) C

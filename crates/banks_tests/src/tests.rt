@@ -21,7 +21,7 @@ use values::version::Version;
 use values::version::VersionDebug;
 use values::version::VersionPartialEq;
 
-fn key(number: u32) -> Key {
+pub(crate) fn key(number: u32) -> Key {
     Version { number, seat: 1 }
 }
 
@@ -116,7 +116,7 @@ fn a_number_names_its_own_provider() -> Result<(), Fail> {
     check_numbers(&mut seven())
 }
 
-fn check_refused<B: Bank<Secret>>(bank: &mut B, i: usize) -> Result<(), Fail> {
+pub(crate) fn check_refused<B: Bank<Secret>>(bank: &mut B, i: usize) -> Result<(), Fail> {
     let text = Secret::new(b"other")?;
     let mut sheet = [key(70), key(71)];
     check_eq(bank.capacity(i), Err(Refusal::NoSuchProvider))?;

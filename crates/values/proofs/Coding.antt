@@ -10,7 +10,7 @@ use Rattle.std.specs.Options.{mapped}
 use Rattle.std.specs.declared.option.Option.the-variants.{Some}
 use Rattle.std.specs.declared.result.Result.{Result}
 use Rattle.std.specs.declared.result.Result.the-variants.{Ok, Err}
-use Rattle.std.proofs.shelf.Lists.{length-take, length-take-le, length-append, length-replicate, take-at, take-all, drop-all, append-nil}
+use Rattle.std.proofs.shelf.Lists.{length-take, length-take-le, length-append, length-replicate, take-at, drop-all, append-nil}
 use Rattle.std.proofs.shelf.Tests.{cond-both, leb-true, le-leb, eq-eqb}
 use Rattle.values.specs.Refusals.{outcome, numbered}
 use Rattle.values.specs.Sheets.{write-answer, write-sheet, read-answer}
@@ -38,19 +38,13 @@ decoded-code bs le =
     let b = le-leb (length bs) 48 le in
     rw b (ap Some (take-at bs (replicate {A = ℕ} (48 - length bs) 0) (length bs) refl))
 
-pub made : (bs to : List ℕ) → length bs ≤ 48 → to ≡ take (length bs) bs ++ replicate (48 - length bs) 0 → _≡_ {A = Result Secret ℕ} (Ok (record { len = length bs; bytes = to })) (make-secret bs)
-made bs to le eq =
-    let e : to ≡ padded bs = eq ∙ ap (λ t. t ++ replicate (48 - length bs) 0) (take-all (length bs) bs (omega arith)) in
-    let f : List ℕ → Result Secret ℕ = λ t. Ok (record { len = length bs; bytes = t }) in
-    rw (le-leb (length bs) 48 le) (ap f e)
-
 -- a sheet of the right length, after its first byte and then the others were written
-pub written : (t text sheet to : List ℕ) → length t ≤ 48 → text ≡ t → length sheet ≡ 49 → to ≡ take (length text) text ++ replicate (length (take 48 (drop 1 (set sheet 0 (length text)))) - length text) 0 → (_≡_ {A = Result (Unit {0}) ℕ} (Ok tt) (write-answer 49 sheet)) × (putMid 1 48 (set sheet 0 (length text)) to ≡ write-sheet 49 (secret-code t) sheet)
+pub written : (t text sheet to : List ℕ) → length t ≤ 48 → text ≡ t → length sheet ≡ 49 → to ≡ text ++ replicate (length (take 48 (drop 1 (set sheet 0 (length text)))) - length text) 0 → (_≡_ {A = Result (Unit {0}) ℕ} (Ok tt) (write-answer 49 sheet)) × (putMid 1 48 (set sheet 0 (length text)) to ≡ write-sheet 49 (secret-code t) sheet)
 written t text [] to short is wide eq = absurd (omega arith)
 written t text (b ∷ bs) to short is wide eq =
     let f : eqb (length (b ∷ bs)) 49 ≡ true = eq-eqb _ _ wide in
     let n : length (take 48 bs) ≡ 48 = length-take-le 48 bs (omega arith) in
-    let e : to ≡ padded text = eq ∙ (ap (λ xs. xs ++ replicate (length (take 48 bs) - length text) 0) (take-all (length text) text (omega arith)) ∙ ap (λ k. text ++ replicate (k - length text) 0) n) in
+    let e : to ≡ padded text = eq ∙ ap (λ k. text ++ replicate (k - length text) 0) n in
     let d : drop 48 bs ≡ [] = drop-all 48 bs (omega arith) in
     let p : putMid 1 48 (set (b ∷ bs) 0 (length text)) to ≡ secret-code t = ap (λ xs. length text ∷ (to ++ xs)) d ∙ (ap (λ xs. length text ∷ xs) (append-nil to ∙ e) ∙ ap secret-code is) in
     (rw f refl, rw f p)

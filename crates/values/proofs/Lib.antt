@@ -1,4 +1,5 @@
+pub mod LittleEndian
+pub mod Ranks
 mod Padding
 pub mod Coding
-pub mod LittleEndian
 pub mod HoldCoding

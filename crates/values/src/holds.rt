@@ -13,7 +13,7 @@ impl Hold {
     pub fn new(seat: u16, first: u32, last: u32) -> Result<Hold, Refusal>
         ensures { λ r. ⌜ numbered r ≡ make-hold seat first last ⌝ }
     {
-        if first > last {
+        if last < first {
             return Err(Refusal::MinutesReversed);
         }
         Ok(Hold::Held { seat, first, last })
@@ -45,6 +45,8 @@ pub impl Kind for Hold as HoldKind {
 
     ghost code = { λ h. hold-code (hold-means h) };
 
+    ghost coded = { hold-code };
+
     ghost decoded = { hold-decoded };
 
     ghost nothing = { Free };
@@ -54,7 +56,7 @@ pub impl Kind for Hold as HoldKind {
     }
 
     fn blank() -> Hold {
-        Hold::Free
+        Self::Free
     }
 
     fn write(&self, sheet: &mut [u8]) -> Result<(), Refusal> {

@@ -1,7 +1,7 @@
 ghost use mathlib.Core.Path.{_≡_};
 ghost use mathlib.Core.List.{List, [], _++_};
 ghost use Prim.Native.Nat.{ℕ, _-_, _≤_};
-ghost use lib.ListN.{length, take, replicate};
+ghost use lib.ListN.{length, replicate};
 ghost use Rattle.std.specs.Options.{mapped};
 ghost use Rattle.values.specs.Refusals.{outcome, numbered};
 ghost use Rattle.values.specs.Sheets.{write-answer, write-sheet, read-answer};
@@ -10,14 +10,13 @@ use crate::kind::Kind;
 use crate::refusal::Refusal;
 use crate::secret::Secret;
 
-// Writes the first `n` bytes of `from` into `to`, and zeros after them.
-fn copy_padded(to: &mut [u8], from: &[u8], n: usize)
-    requires short { ⌜ n ≤ length (now from) ⌝ }
-    requires fits { ⌜ n ≤ length (now to) ⌝ }
-    ensures { λ _. ⌜ now (to .exit) ≡ take n (now (from .entry)) ++ replicate (length (now (to .entry)) - n) 0 ⌝ }
+// Copies `from` into `to`, with zeros after it.
+fn copy_padded(to: &mut [u8], from: &[u8])
+    requires { ⌜ length (now from) ≤ length (now to) ⌝ }
+    ensures { λ _. ⌜ now (to .exit) ≡ now (from .entry) ++ replicate (length (now (to .entry)) - length (now (from .entry))) 0 ⌝ }
 {
     for (i, b) in to.iter_mut().enumerate() {
-        *b = if i < n { from[i] } else { 0 };
+        *b = if i < from.len() { from[i] } else { 0 };
     }
 }
 
@@ -30,7 +29,7 @@ impl Secret {
             return Err(Refusal::SecretTooLong);
         }
         let mut bytes = [0; 48];
-        copy_padded(&mut bytes, text, text.len());
+        copy_padded(&mut bytes, text);
         Ok(Secret {
             len: text.len() as u8,
             bytes,
@@ -57,6 +56,8 @@ pub impl Kind for Secret as SecretKind {
 
     ghost code = { λ s. secret-code (contents s) };
 
+    ghost coded = { secret-code };
+
     ghost decoded = { secret-decoded };
 
     ghost nothing = { secret-of [] };
@@ -78,7 +79,7 @@ pub impl Kind for Secret as SecretKind {
         }
         let text = self.as_bytes();
         sheet[0] = text.len() as u8;
-        copy_padded(&mut sheet[1..49], text, text.len());
+        copy_padded(&mut sheet[1..49], text);
         Ok(())
     }
 

@@ -5,4 +5,4 @@ use Rattle.values.proofs.Padding.{target}
 use Rattle.values.proofs.secrets.copy_padded.Given as given
 
 abbrev pub Inv-loop-i : given.InvT-loop-i
-Inv-loop-i l = (k : ℕ) → k < l .i → getD (l .to) k 0 ≡ getD (target (l .from) (l .n) (length (l .entry .to))) k 0
+Inv-loop-i l = (k : ℕ) → k < l .i → getD (l .to) k 0 ≡ getD (target (l .from) (length (l .entry .to))) k 0

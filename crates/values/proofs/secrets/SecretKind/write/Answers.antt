@@ -14,7 +14,7 @@ pub copy-padded-requires : need.copy-padded-requires
 copy-padded-requires c κs =
     let s = contents-short (c .args .self .now) in
     let e = ap length (c .as-bytes-text .ensures) in
-    record { short = omega arith; fits = simp (length-take, length-drop, length-set) (omega arith) }
+    simp (length-take, length-drop, length-set) (omega arith)
 
 pub returns : need.returns
 returns c =

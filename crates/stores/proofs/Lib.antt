@@ -1,0 +1,3 @@
+pub mod KeyedLists
+pub mod Listings
+mod CopySteps

@@ -7,7 +7,6 @@ use banks::one::One;
 use banks::one::OneBank;
 use banks::two::Two;
 use banks::two::TwoBank;
-use journal::canonical::SecretCanonical;
 use journal::driver::JournalStore;
 use journal::journal::Journal;
 use std::test::*;

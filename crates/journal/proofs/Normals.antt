@@ -6,9 +6,10 @@ use mathlib.Core.Logic.{⊎-elim}
 use Prim.Native.Nat.{ℕ}
 use lib.Dec.{eqb, ltb}
 use lib.ListN.{length}
-use Rattle.std.specs.Options.{isSome, mapped, okOr}
+use Rattle.std.specs.Options.{isSome, mapped, okOr, valueOr}
 use Rattle.std.specs.declared.option.Option.{Option}
 use Rattle.std.specs.declared.option.Option.the-variants.{Some, None}
+use Rattle.std.specs.declared.result.Result.{Result}
 use Rattle.std.specs.declared.result.Result.the-variants.{Ok, Err}
 use Rattle.std.proofs.shelf.Lists.{length-map}
 use Rattle.std.proofs.shelf.Tests.{cases-bool, cond-true, cond-false, cond-both, eq-eqb}
@@ -21,16 +22,36 @@ use Rattle.journal.specs.Record.{put-record, remove-record}
 use Rattle.journal.specs.Codec.{Reads-put, Reads-remove}
 use Rattle.journal.specs.Log.{replay, appended}
 use Rattle.journal.specs.Contents.{Contents, raw, serves, put-log, remove-log, put-contents, remove-contents, pack-contents}
-use Rattle.journal.specs.Normal.{code-or, normal-cell, provider-of}
+use Rattle.journal.specs.Normal.{normal, normal-cell, provider-of}
 use Rattle.journal.proofs.Maps.{ranks, none-is}
 use Rattle.journal.proofs.Records.{step-put, step-remove}
 use Rattle.journal.proofs.Replays.{replay-live}
 use Rattle.journal.proofs.Appends.{replay-appended}
 
--- bytes that are a value's code are in their normal form
-pub kept-code : {M : Type 0} (wide : ℕ) (decoded : List ℕ → Option M) (coded : M → List ℕ) (blank bs : List ℕ) (m : M) → length bs ≡ wide → decoded bs ≡ Some m → code-or coded blank (read-answer wide decoded bs) ≡ coded m
-kept-code wide decoded coded blank bs m l d =
-    ap (code-or coded blank) (cond-true (eqb (length bs) wide) (okOr (decoded bs) 19) (Err 19) (eq-eqb (length bs) wide l) ∙ ap (λ o. okOr o 19) d)
+module _ {M : Type 0} (decoded : List ℕ → Option M) (coded : M → List ℕ) (blank bs : List ℕ) where
+  -- bytes that a value is written as are in their normal form
+  pub kept : (m : M) → decoded bs ≡ Some m → bs ≡ coded m → normal decoded coded blank bs ≡ bs
+  unfolding normal
+  kept m d c = ap (λ o. valueOr (mapped coded o) blank) d ∙ sym c
+
+  -- the bytes of what was read, or of the blank value where the bytes were refused
+  abbrev coded-or : Result M ℕ → List ℕ
+  coded-or (Ok m) = coded m
+  coded-or (Err e) = blank
+
+  coded-some : (o : Option M) → coded-or (okOr o 19) ≡ valueOr (mapped coded o) blank
+  coded-some None = refl
+  coded-some (Some m) = refl
+
+  normal-read : (wide : ℕ) → length bs ≡ wide → coded-or (read-answer wide decoded bs) ≡ normal decoded coded blank bs
+  unfolding normal
+  normal-read wide l = ap coded-or (cond-true (eqb (length bs) wide) (okOr (decoded bs) 19) (Err 19) (eq-eqb (length bs) wide l)) ∙ coded-some (decoded bs)
+
+  pub read-value : (wide : ℕ) (m : M) → length bs ≡ wide → Ok m ≡ read-answer wide decoded bs → coded m ≡ normal decoded coded blank bs
+  read-value wide m l e = ap coded-or e ∙ normal-read wide l
+
+  pub read-nothing : (wide n : ℕ) → length bs ≡ wide → Err n ≡ read-answer wide decoded bs → blank ≡ normal decoded coded blank bs
+  read-nothing wide n l e = ap coded-or e ∙ normal-read wide l
 
 -- the map of a log after a put and after a remove
 

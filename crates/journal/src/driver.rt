@@ -10,9 +10,8 @@ ghost use Rattle.stores.specs.Provider.{cell, keys};
 ghost use Rattle.stores.specs.Operations.{put-answer, put-after, remove-after};
 ghost use Rattle.journal.specs.Log.{sound};
 ghost use Rattle.journal.specs.Contents.{room-in, Largest, empty, put-contents, remove-contents, pack-contents};
-ghost use Rattle.journal.specs.Normal.{provider-of};
+ghost use Rattle.journal.specs.Normal.{normal, provider-of};
 ghost use Rattle.journal.specs.Held.{contents-of, Holds};
-use crate::canonical::Canonical;
 use crate::found::Extent;
 use crate::journal::Journal;
 use crate::keys::list_in;
@@ -41,6 +40,17 @@ fn room_in(n: usize, w: usize) -> usize
     }
 }
 
+// The value that the bytes mean, or the blank value where they mean none.
+fn restore<V: Kind>(bytes: &[u8]) -> V
+    requires { ⌜ length (now bytes) ≡ V·Kind .wide ⌝ }
+    ensures { λ r. ⌜ V·Kind .code r ≡ normal (V·Kind .decoded) (V·Kind .coded) (V·Kind .code (V·Kind .nothing)) (now (bytes .entry)) ⌝ }
+{
+    match V::read(bytes) {
+        Ok(value) => value,
+        Err(_) => V::blank(),
+    }
+}
+
 impl<'a> Journal<'a> {
     // A journal without records for values of one kind, over bytes that it makes zero.
     pub fn new<V: Kind>(bytes: &'a mut [u8]) -> Journal<'a>
@@ -63,7 +73,7 @@ impl<'a> Journal<'a> {
     // Packs the log: only the live records stay. A put or a remove does this itself where its record does not fit.
     pub fn pack(&mut self)
         ensures log { λ _. ⌜ Holds (now (self .exit)) (pack-contents (contents-of (now (self .entry)))) ⌝ }
-        ensures same { λ _. ⌜ ((wide : ℕ) (normal : List ℕ → List ℕ) → provider-of wide normal (contents-of (now (self .exit))) ≡ provider-of wide normal (contents-of (now (self .entry)))) ⌝ }
+        ensures same { λ _. ⌜ ((wide : ℕ) (f : List ℕ → List ℕ) → provider-of wide f (contents-of (now (self .exit))) ≡ provider-of wide f (contents-of (now (self .entry)))) ⌝ }
     {
         self.used = self.region.pack(self.used, self.width);
     }
@@ -71,13 +81,13 @@ impl<'a> Journal<'a> {
 
 // The same bytes serve every kind of the journal's width. For a kind of another width the journal has capacity 0, holds
 // nothing, refuses every put, and stays as it is.
-pub impl<'a, V: Canonical> Store<V> for Journal<'a> as JournalStore {
-    ghost provider = { λ s. provider-of (V·Kind .wide) (V·Canonical .normal) (contents-of s) };
+pub impl<'a, V: Kind> Store<V> for Journal<'a> as JournalStore {
+    ghost provider = { λ s. provider-of (V·Kind .wide) (normal (V·Kind .decoded) (V·Kind .coded) (V·Kind .code (V·Kind .nothing))) (contents-of s) };
 
     // Of a journal it also says that its bytes are its records and zeros after them, and that every record is whole.
     fn lawful(&self)
-        ensures few { λ _. ⌜ length (provider-of (V·Kind .wide) (V·Canonical .normal) (contents-of (now (self .entry))) .cells) ≤ provider-of (V·Kind .wide) (V·Canonical .normal) (contents-of (now (self .entry))) .capacity ⌝ }
-        ensures sorted { λ _. ⌜ ascending (keys (provider-of (V·Kind .wide) (V·Canonical .normal) (contents-of (now (self .entry))))) ≡ true ⌝ }
+        ensures few { λ _. ⌜ length (provider-of (V·Kind .wide) (normal (V·Kind .decoded) (V·Kind .coded) (V·Kind .code (V·Kind .nothing))) (contents-of (now (self .entry))) .cells) ≤ provider-of (V·Kind .wide) (normal (V·Kind .decoded) (V·Kind .coded) (V·Kind .code (V·Kind .nothing))) (contents-of (now (self .entry))) .capacity ⌝ }
+        ensures sorted { λ _. ⌜ ascending (keys (provider-of (V·Kind .wide) (normal (V·Kind .decoded) (V·Kind .coded) (V·Kind .code (V·Kind .nothing))) (contents-of (now (self .entry))))) ≡ true ⌝ }
         ensures log { λ _. ⌜ Holds (now (self .entry)) (contents-of (now (self .entry))) ⌝ }
         ensures sounds { λ _. ⌜ sound (now (self .entry) .width) (contents-of (now (self .entry)) .records) ≡ true ⌝ }
     {}
@@ -110,7 +120,7 @@ pub impl<'a, V: Canonical> Store<V> for Journal<'a> as JournalStore {
                 let from = found.from;
                 Some(Stored {
                     version,
-                    value: V::restore(&bytes[from..from + w]),
+                    value: restore(&bytes[from..from + w]),
                 })
             }
             None => None,
@@ -130,8 +140,8 @@ pub impl<'a, V: Canonical> Store<V> for Journal<'a> as JournalStore {
     }
 
     fn put(&mut self, key: Key, version: Version, value: V) -> Result<(), Refusal>
-        ensures answer { λ r. ⌜ numbered r ≡ put-answer (cell key version (V·Kind .code value)) (provider-of (V·Kind .wide) (V·Canonical .normal) (contents-of (now (self .entry)))) ⌝ }
-        ensures after { λ _. ⌜ provider-of (V·Kind .wide) (V·Canonical .normal) (contents-of (now (self .exit))) ≡ put-after (cell key version (V·Kind .code value)) (provider-of (V·Kind .wide) (V·Canonical .normal) (contents-of (now (self .entry)))) ⌝ }
+        ensures answer { λ r. ⌜ numbered r ≡ put-answer (cell key version (V·Kind .code value)) (provider-of (V·Kind .wide) (normal (V·Kind .decoded) (V·Kind .coded) (V·Kind .code (V·Kind .nothing))) (contents-of (now (self .entry)))) ⌝ }
+        ensures after { λ _. ⌜ provider-of (V·Kind .wide) (normal (V·Kind .decoded) (V·Kind .coded) (V·Kind .code (V·Kind .nothing))) (contents-of (now (self .exit))) ≡ put-after (cell key version (V·Kind .code value)) (provider-of (V·Kind .wide) (normal (V·Kind .decoded) (V·Kind .coded) (V·Kind .code (V·Kind .nothing))) (contents-of (now (self .entry)))) ⌝ }
         ensures log { λ _. ⌜ Holds (now (self .exit)) (put-contents (V·Kind .wide) (cell key version (V·Kind .code value)) (contents-of (now (self .entry)))) ⌝ }
     {
         let w = V::size();
@@ -153,7 +163,7 @@ pub impl<'a, V: Canonical> Store<V> for Journal<'a> as JournalStore {
     }
 
     fn remove(&mut self, key: Key)
-        ensures after { λ _. ⌜ provider-of (V·Kind .wide) (V·Canonical .normal) (contents-of (now (self .exit))) ≡ remove-after (rank key) (provider-of (V·Kind .wide) (V·Canonical .normal) (contents-of (now (self .entry)))) ⌝ }
+        ensures after { λ _. ⌜ provider-of (V·Kind .wide) (normal (V·Kind .decoded) (V·Kind .coded) (V·Kind .code (V·Kind .nothing))) (contents-of (now (self .exit))) ≡ remove-after (rank key) (provider-of (V·Kind .wide) (normal (V·Kind .decoded) (V·Kind .coded) (V·Kind .code (V·Kind .nothing))) (contents-of (now (self .entry)))) ⌝ }
         ensures log { λ _. ⌜ Holds (now (self .exit)) (remove-contents (V·Kind .wide) (rank key) (contents-of (now (self .entry)))) ⌝ }
     {
         if self.width != V::size() {

@@ -2,7 +2,6 @@
 // append one record each; where a record does not fit, the log is packed first.
 
 mod append;
-pub mod canonical;
 pub mod codec;
 pub mod driver;
 mod form;

@@ -1,5 +1,3 @@
-use journal::canonical::HoldCanonical;
-use journal::canonical::SecretCanonical;
 use journal::driver::JournalStore;
 use journal::journal::Journal;
 use std::alloc::AllocError;
@@ -9,6 +7,7 @@ use stores::store::Store;
 use stores::stored::Stored;
 use values::hold::Hold;
 use values::holds::HoldKind;
+use values::kind::Kind;
 use values::refusal::Refusal;
 use values::refusal::RefusalDebug;
 use values::refusal::RefusalPartialEq;
@@ -136,6 +135,31 @@ fn keeps_a_key(bytes: &mut [u8], secret: Secret, turns: u32) -> Result<bool, Ref
 fn a_key_outlives_packing(rt: LibcRuntime) -> Result<(), Fail> {
     let secret = Secret::new(b"kept")?;
     check(keeps_a_key(&mut vec![in rt.alloc(); 0; 186]?, secret, 300)?)
+}
+
+// Puts a value of any kind and reads it back.
+fn read_back<V: Kind>(bytes: &mut [u8], value: V) -> Option<V> {
+    let mut journal = Journal::new::<V>(bytes);
+    if journal.put(version(4, 1), version(4, 2), value).is_err() {
+        return None;
+    }
+    let stored: Stored<V> = journal.get(version(4, 1))?;
+    Some(stored.value)
+}
+
+#[test]
+fn values_of_both_kinds_are_read_back(rt: LibcRuntime) -> Result<(), Fail> {
+    let mut bytes = vec![in rt.alloc(); 5; 124]?;
+    match read_back(&mut bytes, Secret::new(b"open sesame")?) {
+        Some(secret) => check(secret.as_bytes() == b"open sesame")?,
+        None => check(false)?,
+    }
+    match read_back(&mut bytes, Hold::new(3, 10, 20)?) {
+        Some(hold) => check(
+            hold.covers(10) && hold.covers(20) && !hold.covers(9) && !hold.covers(21),
+        ),
+        None => check(false),
+    }
 }
 
 fn listed(bytes: &mut [u8], sheet: &mut [Key]) -> Result<usize, Refusal> {

@@ -2,7 +2,6 @@
 // says what it did.
 mod parse;
 
-use journal::canonical::SecretCanonical;
 use journal::driver::JournalStore;
 use journal::journal::Journal;
 use parse::Request;

@@ -1,5 +1,5 @@
 pub mod LittleEndian
 pub mod Ranks
-pub mod Coding
-pub mod HoldCoding
 mod Padding
+mod Coding
+mod HoldCoding

@@ -45,6 +45,8 @@ pub impl Kind for Hold as HoldKind {
 
     ghost code = { λ h. hold-code (hold-means h) };
 
+    ghost coded = { hold-code };
+
     ghost decoded = { hold-decoded };
 
     ghost nothing = { Free };

@@ -24,6 +24,9 @@ pub trait Kind: Copy {
     // the bytes that a record is written as
     ghost code: { Self → List ℕ };
 
+    // the bytes that a meaning is written as
+    ghost coded: { Meaning → List ℕ };
+
     // the meaning of as many bytes as the kind is wide, if they have one
     ghost decoded: { List ℕ → Option Meaning };
 
@@ -35,7 +38,7 @@ pub trait Kind: Copy {
     law whole: { (v : Self) → length (code v) ≡ wide };
 
     // what is written follows from the meaning alone
-    law alike: { (v w : Self) → means v ≡ means w → code v ≡ code w };
+    law follows: { (v : Self) → code v ≡ coded (means v) };
 
     // a value that is written and then read is the same value
     law back: { (v : Self) → decoded (code v) ≡ Some (means v) };

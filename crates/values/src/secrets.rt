@@ -56,6 +56,8 @@ pub impl Kind for Secret as SecretKind {
 
     ghost code = { λ s. secret-code (contents s) };
 
+    ghost coded = { secret-code };
+
     ghost decoded = { secret-decoded };
 
     ghost nothing = { secret-of [] };

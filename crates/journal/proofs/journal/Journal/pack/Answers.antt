@@ -36,4 +36,4 @@ ghost-self c =
 pub returns : need.returns
 returns c =
     let e = contents-packed (c .args .self .now .width) (c .args .self .now .room) (c .args .self .now .used) (c .pack-self .result) (c .args .self .now .region .bytes .now) (c .pack-self .last .self .bytes .now) (c .pack-self .ensures .after) (c .pack-self .ensures .size) in
-    record { log = held _ _ e; same = λ wide normal. ap (provider-of wide normal) e ∙ provider-pack wide normal (contents-of (c .args .self .now)) }
+    record { log = held _ _ e; same = λ wide f. ap (provider-of wide f) e ∙ provider-pack wide f (contents-of (c .args .self .now)) }

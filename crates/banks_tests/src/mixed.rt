@@ -15,7 +15,6 @@ use stores::store::Store;
 use table::driver::TableStore;
 use table::entry::Entry;
 use table::table::Table;
-use values::refusal::Refusal;
 use values::refusal::RefusalDebug;
 use values::refusal::RefusalPartialEq;
 use values::secret::Secret;

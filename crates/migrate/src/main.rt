@@ -216,7 +216,7 @@ fn main(rt: LibcRuntime) -> io::Result<()> {
     )?;
     let mut sheet = [Key::STANDING; CAPACITY];
     if first.list(&mut sheet).is_err() || count > CAPACITY {
-        return Ok(());
+        return println!(rt, "the keys do not fit a sheet of {CAPACITY} places");
     }
     let keys = &sheet[0..count];
     copy_to(&rt, &first, &mut log, "the log")?;

@@ -128,35 +128,56 @@ fn check_mixed<B: Bank<Secret>>(bank: &mut B) -> Result<(), Fail> {
     check_all(bank, text)
 }
 
-// Seven providers that are lent, nested unevenly.
-#[test]
-fn tables_and_logs_by_number_and_directly() -> Result<(), Fail> {
-    let mut entries_1 = [BLANK; 3];
-    let mut entries_3 = [BLANK; 3];
-    let mut entries_4 = [BLANK; 3];
-    let mut entries_7 = [BLANK; 3];
-    let mut bytes_2 = [0; 248];
-    let mut bytes_5 = [0; 248];
-    let mut bytes_6 = [0; 248];
+// Seven lent providers of any makes in a bank, nested unevenly.
+fn check_seven<
+    A: Store<Secret>,
+    B: Store<Secret>,
+    C: Store<Secret>,
+    D: Store<Secret>,
+    E: Store<Secret>,
+    F: Store<Secret>,
+    G: Store<Secret>,
+>(
+    one: &mut A,
+    two: &mut B,
+    three: &mut C,
+    four: &mut D,
+    five: &mut E,
+    six: &mut F,
+    seven: &mut G,
+) -> Result<(), Fail> {
     check_mixed(
         &mut Two {
             left: Two {
-                left: One(&mut Table::new(&mut entries_1)),
-                right: One(&mut Journal::new::<Secret>(&mut bytes_2)),
+                left: One(one),
+                right: One(two),
             },
             right: Two {
-                left: One(&mut Table::new(&mut entries_3)),
+                left: One(three),
                 right: Two {
                     left: Two {
                         left: Two {
-                            left: One(&mut Table::new(&mut entries_4)),
-                            right: One(&mut Journal::new::<Secret>(&mut bytes_5)),
+                            left: One(four),
+                            right: One(five),
                         },
-                        right: One(&mut Journal::new::<Secret>(&mut bytes_6)),
+                        right: One(six),
                     },
-                    right: One(&mut Table::new(&mut entries_7)),
+                    right: One(seven),
                 },
             },
         },
+    )
+}
+
+#[test]
+fn tables_and_logs_by_number_and_directly() -> Result<(), Fail> {
+    check_seven(
+        &mut Table::new(&mut [BLANK; 3]),
+        &mut Journal::new::<Secret>(&mut [0; 248]),
+        &mut Table::new(&mut [BLANK; 3]),
+        &mut Table::new(&mut [BLANK; 3]),
+        &mut Journal::new::<Secret>(&mut [0; 248]),
+        &mut Journal::new::<Secret>(&mut [0; 248]),
+        &mut Table::new(&mut [BLANK; 3]),
     )
 }

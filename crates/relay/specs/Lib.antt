@@ -1,0 +1,4 @@
+pub mod Sheets
+pub mod Checks
+pub mod Effects
+pub mod RelayState

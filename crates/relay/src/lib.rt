@@ -1,0 +1,16 @@
+// The relay: one register over a bank of providers. Its seats and lines lie in sheets that each call is handed.
+
+mod admission;
+mod beginning;
+pub mod calls;
+mod checks;
+mod finding;
+pub mod inner;
+mod judging;
+pub mod landing;
+pub mod losing;
+mod outcome;
+mod place;
+pub mod relay;
+mod sheets;
+mod steps;

@@ -42,10 +42,8 @@ impl<V: Kind> Line<V> {
     pub fn freed(self) -> Line<V>
         ensures { λ r. ⌜ line-means (V·Kind .code) r ≡ record { state = lin.free; progress = progress-means (V·Kind .code) self } ⌝ }
     {
-        Line {
-            transit: Transit::Free,
-            ..self
-        }
+        let transit = Transit::Free;
+        Line { transit, ..self }
     }
 
     // The line with a request on the way.

@@ -6,3 +6,4 @@ mod Locating
 mod RelaySteps
 mod Asking
 mod Landings
+mod Openings

@@ -171,3 +171,7 @@ module _ (R : RelayState) (s i : ℕ) where
       by false false eq =
           let is : at ≡ record { providers = n; seat = s - 1; provider = i - 1 } = cc in
           ap (λ (a : Place). unless-overlong (overlong (a .providers) (a .seat) (a .provider) (R .state)) (R .state) (land-on (a .providers) (a .seat) (a .provider) (R .state))) is
+
+-- a call as a value, and its answer as one
+pub told-step : (X R : RelayState) (a b : Answer) (k l : Call) → a ≡ b → (X, b) ≡ relay-step R k → l ≡ k → (X, a) ≡ relay-step R l
+told-step X R a b k l answer step call = ap (λ a. (X, a)) answer ∙ (step ∙ ap (relay-step R) (sym call))

@@ -2,6 +2,7 @@
 
 mod admission;
 mod beginning;
+pub mod calling;
 pub mod calls;
 mod checks;
 mod finding;
@@ -9,6 +10,7 @@ pub mod inner;
 mod judging;
 pub mod landing;
 pub mod losing;
+pub mod opening;
 mod outcome;
 mod place;
 pub mod relay;

@@ -1,4 +1,5 @@
 // Tests of banks of mixed makes, and two makes of provider that are small enough to test with.
+#![tactic(auto)]
 
 pub mod closed;
 #[cfg(test)]

@@ -1,5 +1,7 @@
 // Reads secrets from standard input into a table, copies the table into a log, and the log back into a second table, and
 // says what it did.
+#![tactic(auto)]
+
 mod parse;
 
 use journal::journal::Journal;

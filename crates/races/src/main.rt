@@ -1,5 +1,7 @@
 // Plays three stories of an office with two seats and three providers, and tells each step: races that cost other
 // registers a secret, and what the reads show here.
+#![tactic(auto)]
+
 mod step;
 mod stories;
 mod tell;

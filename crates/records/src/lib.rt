@@ -1,5 +1,6 @@
 // The records of a relay: seats, and lines with their requests and replies. They lie in sheets that callers hand in, so a
 // record has no invariant, and every record means something.
+#![tactic(auto)]
 
 pub mod answer;
 pub mod call;

@@ -1,4 +1,5 @@
 // The relay: one register over a bank of providers. Its seats and lines lie in sheets that each call is handed.
+#![tactic(auto)]
 
 mod admission;
 mod beginning;

@@ -1,4 +1,5 @@
 // Tests of the relay's refusals. They stand in a crate of their own, since a crate that has tests is proved twice.
+#![tactic(auto)]
 
 #[cfg(test)]
 mod doubled;

@@ -1,4 +1,6 @@
 // Plays a script of calls on a relay of two seats and three providers, and prints the answer to each line.
+#![tactic(auto)]
+
 mod parse;
 
 use banks::bank::Bank;

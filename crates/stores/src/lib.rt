@@ -1,4 +1,5 @@
 // What a provider is: a map with a capacity, behind one set of operations that every make of provider has.
+#![tactic(auto)]
 
 pub mod copying;
 pub mod store;

@@ -1,4 +1,5 @@
 // The table driver: a provider over a lent slice of entries.
+#![tactic(auto)]
 
 pub mod blanks;
 pub mod driver;

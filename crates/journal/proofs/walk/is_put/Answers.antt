@@ -9,4 +9,4 @@ bounds-rec-0 c = whole_some c.args.w c.args.rec.now c.requires
 
 pub returns : goal.returns
 unfolding is_put
-returns c = ap (λ (x : Form). x.value) c.form-of.ensures
+returns c = ap (λ (x : Form). x.value) c.form_of.ensures

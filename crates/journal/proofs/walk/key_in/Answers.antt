@@ -9,13 +9,13 @@ use Rattle.journal.proofs.walk.key_in.Goals as goal
 pub bounds-rec-0 : goal.bounds-rec-0
 bounds-rec-0 c = whole_some c.args.w c.args.rec.now c.requires
 
-pub version-at-requires : goal.version-at-requires
-version-at-requires c = key_fits c.args.w c.args.rec.now c.requires (sym (ap (λ (x : Form). x.key) c.form-of.ensures) ∙ c.if-form-of.true)
+pub version_at-requires : goal.version_at-requires
+version_at-requires c = key_fits c.args.w c.args.rec.now c.requires (sym (ap (λ (x : Form). x.key) c.form_of.ensures) ∙ c.if-form_of.true)
 
-pub returns-then-form-of : goal.returns-then-form-of
+pub returns-then-form_of : goal.returns-then-form_of
 unfolding record_key
-returns-then-form-of c = c.version-at.ensures ∙ sym (cond-true (form (bit_map c.args.rec.now)).key (rank_at 1 c.args.rec.now) 0 (sym (ap (λ (x : Form). x.key) c.form-of.ensures) ∙ c.if-form-of.true))
+returns-then-form_of c = c.version_at.ensures ∙ sym (cond-true (form (bit_map c.args.rec.now)).key (rank_at 1 c.args.rec.now) 0 (sym (ap (λ (x : Form). x.key) c.form_of.ensures) ∙ c.if-form_of.true))
 
-pub returns-else-form-of : goal.returns-else-form-of
+pub returns-else-form_of : goal.returns-else-form_of
 unfolding record_key
-returns-else-form-of c = sym (cond-false (form (bit_map c.args.rec.now)).key (rank_at 1 c.args.rec.now) 0 (sym (ap (λ (x : Form). x.key) c.form-of.ensures) ∙ c.if-form-of.false))
+returns-else-form_of c = sym (cond-false (form (bit_map c.args.rec.now)).key (rank_at 1 c.args.rec.now) 0 (sym (ap (λ (x : Form). x.key) c.form_of.ensures) ∙ c.if-form_of.false))

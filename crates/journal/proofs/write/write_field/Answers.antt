@@ -13,5 +13,5 @@ returns c =
     let t = c.if-not-stands.false in
     record {
       size = rw t refl;
-      after = field_written c.args.at _ c.args.stands c.args.field.now c.copy-from-slice.new.self c.args.bytes.now t c.copy-from-slice.ensures.after (omega arith);
+      after = field_written c.args.at _ c.args.stands c.args.field.now c.copy_from_slice.new.self c.args.bytes.now t c.copy_from_slice.ensures.after (omega arith);
     }

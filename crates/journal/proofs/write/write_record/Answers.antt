@@ -15,36 +15,36 @@ bounds-bytes-at c =
     let p = c.requires in
     omega arith
 
-pub write-field-mid-requires : goal.write-field-mid-requires
-write-field-mid-requires c =
+pub write_field-mid-requires : goal.write_field-mid-requires
+write_field-mid-requires c =
     let l = encoded_length c.args.map (cell c.args.key c.args.version c.args.value.now) in
     let p = c.requires in
-    let k = ap length (same_field _ _ _ _ (ap (λ (x : Form). x.key) c.form-of-form.ensures) c.six_bytes.ensures) in
+    let k = ap length (same_field _ _ _ _ (ap (λ (x : Form). x.key) c.form_of-form.ensures) c.six_bytes.ensures) in
     let z = length-set c.args.bytes.now c.args.at c.args.map in
     omega arith
 
-pub write-field-to-requires : goal.write-field-to-requires
-write-field-to-requires c =
+pub write_field-to-requires : goal.write_field-to-requires
+write_field-to-requires c =
     let l = encoded_length c.args.map (cell c.args.key c.args.version c.args.value.now) in
     let p = c.requires in
-    let k = ap length (same_field _ _ _ _ (ap (λ (x : Form). x.key) c.form-of-form.ensures) c.six_bytes.ensures) in
-    let v = ap length (same_field _ _ _ _ (ap (λ (x : Form). x.version) c.form-of-form.ensures) c.six-bytes-2.ensures) in
-    let m = c.write-field-mid.ensures.size in
-    let n = c.write-field-mid.auto.bytes in
+    let k = ap length (same_field _ _ _ _ (ap (λ (x : Form). x.key) c.form_of-form.ensures) c.six_bytes.ensures) in
+    let v = ap length (same_field _ _ _ _ (ap (λ (x : Form). x.version) c.form_of-form.ensures) c.six_bytes-2.ensures) in
+    let m = c.write_field-mid.ensures.size in
+    let n = c.write_field-mid.auto.bytes in
     let z = length-set c.args.bytes.now c.args.at c.args.map in
     omega arith
 
-pub write-field-requires : goal.write-field-requires
-write-field-requires c =
+pub write_field-requires : goal.write_field-requires
+write_field-requires c =
     let l = encoded_length c.args.map (cell c.args.key c.args.version c.args.value.now) in
     let p = c.requires in
-    let k = ap length (same_field _ _ _ _ (ap (λ (x : Form). x.key) c.form-of-form.ensures) c.six_bytes.ensures) in
-    let v = ap length (same_field _ _ _ _ (ap (λ (x : Form). x.version) c.form-of-form.ensures) c.six-bytes-2.ensures) in
-    let x = ap (λ (x : Form). length (field x.value c.args.value.now)) c.form-of-form.ensures in
-    let m = c.write-field-mid.ensures.size in
-    let t = c.write-field-to.ensures.size in
-    let n = c.write-field-mid.auto.bytes in
-    let o = c.write-field-to.auto.bytes in
+    let k = ap length (same_field _ _ _ _ (ap (λ (x : Form). x.key) c.form_of-form.ensures) c.six_bytes.ensures) in
+    let v = ap length (same_field _ _ _ _ (ap (λ (x : Form). x.version) c.form_of-form.ensures) c.six_bytes-2.ensures) in
+    let x = ap (λ (x : Form). length (field x.value c.args.value.now)) c.form_of-form.ensures in
+    let m = c.write_field-mid.ensures.size in
+    let t = c.write_field-to.ensures.size in
+    let n = c.write_field-mid.auto.bytes in
+    let o = c.write_field-to.auto.bytes in
     let z = length-set c.args.bytes.now c.args.at c.args.map in
     omega arith
 
@@ -52,19 +52,19 @@ pub returns : goal.returns
 returns c =
     let e = cell c.args.key c.args.version c.args.value.now in
     let l = encoded_length c.args.map (cell c.args.key c.args.version c.args.value.now) in
-    let k = same_field c.form-of-form.result.key (form c.args.map).key c.six_bytes.result (six_bytes (rank c.args.key)) (ap (λ (x : Form). x.key) c.form-of-form.ensures) c.six_bytes.ensures in
-    let v = same_field c.form-of-form.result.version (form c.args.map).version c.six-bytes-2.result (six_bytes (rank c.args.version)) (ap (λ (x : Form). x.version) c.form-of-form.ensures) c.six-bytes-2.ensures in
-    let x = ap (λ (x : Form). field x.value c.args.value.now) c.form-of-form.ensures in
+    let k = same_field c.form_of-form.result.key (form c.args.map).key c.six_bytes.result (six_bytes (rank c.args.key)) (ap (λ (x : Form). x.key) c.form_of-form.ensures) c.six_bytes.ensures in
+    let v = same_field c.form_of-form.result.version (form c.args.map).version c.six_bytes-2.result (six_bytes (rank c.args.version)) (ap (λ (x : Form). x.version) c.form_of-form.ensures) c.six_bytes-2.ensures in
+    let x = ap (λ (x : Form). field x.value c.args.value.now) c.form_of-form.ensures in
     let lk = ap length k in
     let lv = ap length v in
     let lx = ap length x in
     record {
-      size = let m = c.write-field-mid.ensures.size in let t = c.write-field-to.ensures.size in let u = c.write-field.ensures.size in omega arith;
+      size = let m = c.write_field-mid.ensures.size in let t = c.write_field-to.ensures.size in let u = c.write_field.ensures.size in omega arith;
       after =
-          written c.args.at c.args.bytes.now c.args.map e c.write-field-mid.result c.write-field-to.result c.write-field-mid.new.bytes c.write-field-to.new.bytes c.write-field.new.bytes c.requires
-          (c.write-field-mid.ensures.after ∙ ap (λ ys. overlay (c.args.at + 1) ys (set c.args.bytes.now c.args.at c.args.map)) k)
-          (c.write-field-mid.ensures.size ∙ ap (λ n. c.args.at + 1 + n) lk)
-          (c.write-field-to.ensures.after ∙ ap (λ ys. overlay c.write-field-mid.result ys c.write-field-mid.new.bytes) v)
-          (c.write-field-to.ensures.size ∙ ap (λ n. c.write-field-mid.result + n) lv)
-          (c.write-field.ensures.after ∙ ap (λ ys. overlay c.write-field-to.result ys c.write-field-to.new.bytes) x);
+          written c.args.at c.args.bytes.now c.args.map e c.write_field-mid.result c.write_field-to.result c.write_field-mid.new.bytes c.write_field-to.new.bytes c.write_field.new.bytes c.requires
+          (c.write_field-mid.ensures.after ∙ ap (λ ys. overlay (c.args.at + 1) ys (set c.args.bytes.now c.args.at c.args.map)) k)
+          (c.write_field-mid.ensures.size ∙ ap (λ n. c.args.at + 1 + n) lk)
+          (c.write_field-to.ensures.after ∙ ap (λ ys. overlay c.write_field-mid.result ys c.write_field-mid.new.bytes) v)
+          (c.write_field-to.ensures.size ∙ ap (λ n. c.write_field-mid.result + n) lv)
+          (c.write_field.ensures.after ∙ ap (λ ys. overlay c.write_field-to.result ys c.write_field-to.new.bytes) x);
     }

@@ -10,8 +10,8 @@ loop-k-init g c = (refl, λ j le. refl)
 
 pub loop-k-preserved : goal.loop-k-preserved
 loop-k-preserved g c = (
-  cleared_more _ _ _ _ _ c.loop-k.k c.loop-k.invariant.0 c.blank.ensures c.write-line.ensures.means,
-  λ j le. c.write-line.ensures.beyond j (omega arith) ∙ c.loop-k.invariant.1 j le,
+  cleared_more _ _ _ _ _ c.loop-k.k c.loop-k.invariant.0 c.blank.ensures c.write_line.ensures.means,
+  λ j le. c.write_line.ensures.beyond j (omega arith) ∙ c.loop-k.invariant.1 j le,
 )
 
 pub returns : goal.returns

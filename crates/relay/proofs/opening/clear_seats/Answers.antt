@@ -9,8 +9,8 @@ loop-s-init g c = (refl, λ j le. refl)
 
 pub loop-s-preserved : goal.loop-s-preserved
 loop-s-preserved g c = (
-  cleared_more _ _ _ _ _ c.loop-s.s c.loop-s.invariant.0 c.blank.ensures c.write-seat.ensures.means,
-  λ j le. c.write-seat.ensures.beyond j (omega arith) ∙ c.loop-s.invariant.1 j le,
+  cleared_more _ _ _ _ _ c.loop-s.s c.loop-s.invariant.0 c.blank.ensures c.write_seat.ensures.means,
+  λ j le. c.write_seat.ensures.beyond j (omega arith) ∙ c.loop-s.invariant.1 j le,
 )
 
 pub returns : goal.returns

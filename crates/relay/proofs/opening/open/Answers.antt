@@ -18,12 +18,12 @@ returns-in-Ok g c =
     let nothing = code g.V.Kind.nothing in
     let S = seats_mean code c.args.seats.now in
     let L = lines_mean code c.args.lines.now in
-    let q = c.fresh-inner-inner.result in
-    let h = c.fresh-inner-inner.ensures in
+    let q = c.fresh_inner-inner.result in
+    let h = c.fresh_inner-inner.ensures in
     let w = c.in-Ok.ensures.within in
     let f : Option ℕ → ℕ → List sea.Seat → List lin.Line → List Bool → ℕ → RelayState = λ o k s l d z. record { refusal = o; seat_count = k; state = record { seats = s; lines = l; row = row; lost = d; looks = z } } in
-    let S' = seats_mean code c.clear-seats.new.seats in
-    let L' = lines_mean code c.clear-lines.new.lines in
+    let S' = seats_mean code c.clear_seats.new.seats in
+    let L' = lines_mean code c.clear_lines.new.lines in
     let C = cleared (fresh_seat nothing) m S in
     let E = cleared lin.blank_line (m * size_of row) L in
     record {
@@ -32,12 +32,12 @@ returns-in-Ok g c =
       state =
           ap (λ o. f (option_map refusal_number o) q.seats S' L' (lost_flags q) q.looks) h.refused
           ∙ (ap (λ k. f None k S' L' (lost_flags q) q.looks) h.seats
-          ∙ (ap (λ s. f None m s L' (lost_flags q) q.looks) c.clear-seats.ensures.means
-          ∙ (ap (λ l. f None m C l (lost_flags q) q.looks) c.clear-lines.ensures.means
+          ∙ (ap (λ s. f None m s L' (lost_flags q) q.looks) c.clear_seats.ensures.means
+          ∙ (ap (λ l. f None m C l (lost_flags q) q.looks) c.clear_lines.ensures.means
           ∙ (ap (λ n. f None m C (cleared lin.blank_line (m * n) L) (lost_flags q) q.looks) c.size-n.ensures
           ∙ (ap (λ d. f None m C E d q.looks) h.flags
           ∙ (ap (λ z. f None m C E none_lost z) h.looks
           ∙ ap (λ o. opened o m nothing row S L) c.in-Ok.ensures.answer))))));
-      beyond = (c.clear-seats.ensures.beyond m (omega arith), c.clear-lines.ensures.beyond (m * size_of row) (subst (λ n. m * c.size-n.result ≤ m * n) c.size-n.ensures (omega arith)));
+      beyond = (c.clear_seats.ensures.beyond m (omega arith), c.clear_lines.ensures.beyond (m * size_of row) (subst (λ n. m * c.size-n.result ≤ m * n) c.size-n.ensures (omega arith)));
       refusal = λ e. absurd (false≢true e);
     }

@@ -10,8 +10,8 @@ use Rattle.relay.proofs.sheets.count_done.Goals.{then-counts, else-counts}
 pub loop-i-preserved : goal.loop-i-preserved
 loop-i-preserved g c =
     elim c.if-counts.branch [
-      | then-counts w ↦ (omega (arith, w.done-is), count_yes (lines_mean g.V.Kind.code c.args.lines.now) c.args.n c.args.s c.loop-i.i (line_means g.V.Kind.code c.read-line.result) c.read-line.ensures _ _ c.loop-i.invariant.1 (sym w.if-counts.ensures) w.done-is)
-      | else-counts w ↦ (omega (arith, w.done-is), count_no (lines_mean g.V.Kind.code c.args.lines.now) c.args.n c.args.s c.loop-i.i (line_means g.V.Kind.code c.read-line.result) c.read-line.ensures _ _ c.loop-i.invariant.1 (sym w.if-counts.ensures) w.done-is)
+      | then-counts w ↦ (omega (arith, w.done-is), count_yes (lines_mean g.V.Kind.code c.args.lines.now) c.args.n c.args.s c.loop-i.i (line_means g.V.Kind.code c.read_line.result) c.read_line.ensures _ _ c.loop-i.invariant.1 (sym w.if-counts.ensures) w.done-is)
+      | else-counts w ↦ (omega (arith, w.done-is), count_no (lines_mean g.V.Kind.code c.args.lines.now) c.args.n c.args.s c.loop-i.i (line_means g.V.Kind.code c.read_line.result) c.read_line.ensures _ _ c.loop-i.invariant.1 (sym w.if-counts.ensures) w.done-is)
     ]
 
 pub returns : goal.returns

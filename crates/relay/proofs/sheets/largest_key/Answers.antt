@@ -7,7 +7,7 @@ use Rattle.relay.proofs.Tallies.{key_more}
 use Rattle.relay.proofs.sheets.largest_key.Goals as goal
 
 pub loop-i-preserved : goal.loop-i-preserved
-loop-i-preserved g c = key_more (lines_mean g.V.Kind.code c.args.lines.now) c.args.n c.args.s c.loop-i.i (line_means g.V.Kind.code c.read-line.result) c.read-line.ensures _ _ _ c.loop-i.invariant c.counted-key.ensures c.later-best.ensures
+loop-i-preserved g c = key_more (lines_mean g.V.Kind.code c.args.lines.now) c.args.n c.args.s c.loop-i.i (line_means g.V.Kind.code c.read_line.result) c.read_line.ensures _ _ _ c.loop-i.invariant c.counted_key.ensures c.later-best.ensures
 
 pub returns : goal.returns
 returns g c =

@@ -9,8 +9,8 @@ loop-i-init g c = (refl, λ j le. refl)
 
 pub loop-i-preserved : goal.loop-i-preserved
 loop-i-preserved g c = (
-  restart_more _ _ _ _ _ _ _ _ c.loop-i.invariant.0 c.read-line-line.ensures c.restarted.ensures c.write-line.ensures.means,
-  λ j le. c.write-line.ensures.beyond j (omega arith) ∙ c.loop-i.invariant.1 j le,
+  restart_more _ _ _ _ _ _ _ _ c.loop-i.invariant.0 c.read_line-line.ensures c.restarted.ensures c.write_line.ensures.means,
+  λ j le. c.write_line.ensures.beyond j (omega arith) ∙ c.loop-i.invariant.1 j le,
 )
 
 pub returns : goal.returns

@@ -8,14 +8,14 @@ use Rattle.relay.specs.Sheets.{seats_mean}
 use Rattle.relay.proofs.Exits.{handed_on}
 use Rattle.relay.proofs.steps.post_line.Goals as goal
 
-pub returns-in-err-may-post : goal.returns-in-err-may-post
-returns-in-err-may-post g c =
-    let l = line_means g.V.Kind.code c.read-line-line.result in
+pub returns-in_err-may_post : goal.returns-in_err-may_post
+returns-in_err-may_post g c =
+    let l = line_means g.V.Kind.code c.read_line-line.result in
     let q = get_or (seats_mean g.V.Kind.code c.args.seats.now) c.args.at.seat blank_seat in
-    let is = handed_on c.in-err-may-post.field-0.0 c.from-residual.result c.from-residual.ensures.1 in
+    let is = handed_on c.in_err-may_post.field-0.0 c.from_residual.result c.from_residual.ensures.1 in
     record {
-      answer = ap numbered is ∙ (c.in-err-may-post.ensures ∙ (ap (λ q. post_check (activity q) l) c.read-seat-seat.ensures ∙ ap (post_check (activity q)) c.read-line-line.ensures));
-      means = sym (cond-false (is_ok c.from-residual.result) _ _ (ap is_ok is));
+      answer = ap numbered is ∙ (c.in_err-may_post.ensures ∙ (ap (λ q. post_check (activity q) l) c.read_seat-seat.ensures ∙ ap (post_check (activity q)) c.read_line-line.ensures));
+      means = sym (cond-false (is_ok c.from_residual.result) _ _ (ap is_ok is));
       beyond = λ j lt. refl;
       refusal = λ _. refl;
     }

@@ -18,14 +18,14 @@ loop-k-preserved g c =
     let row = g.B.Bank.row in
     let k = c.loop-k.k in
     let was = c.loop-k.relay in
-    let call = c.call-at-call.result in
+    let call = c.call_at-call.result in
     let R : RelayState = relay_state code (row was.bank) was.inner c.loop-k.seats c.loop-k.lines in
     let S : RelayState = relay_state code (row c.call-answer.new.self.bank) c.call-answer.new.self.inner c.call-answer.new.seats c.call-answer.new.lines in
     let a = c.call-answer.result in
     let ps = calls_in c.args.exchanges.now in
     let os = answers_in c.loop-k.exchanges in
     let inv = c.loop-k.invariant in
-    let is : call ≡ get_or ps k call = c.call-at-call.ensures ∙ ap (λ l. get_or l k call) inv.0 in
+    let is : call ≡ get_or ps k call = c.call_at-call.ensures ∙ ap (λ l. get_or l k call) inv.0 in
     let step : ◌≡◌ {A = RelayState × Answer} (S, told code a) _ = c.call-answer.ensures.step in
     let lp : k < length ps = omega (arith, length-map c.args.exchanges.now (λ e. e.call)) in
     let lo : k < length os = omega (arith, length-map c.loop-k.exchanges (λ e. e.answer)) in

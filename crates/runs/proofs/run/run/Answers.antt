@@ -26,12 +26,12 @@ returns g c =
     let relay = c.open-relay.result.0 in
     let a = c.open-relay.result.1 in
     let o = c.open-relay.ensures in
-    let h = c.make-calls.ensures in
+    let h = c.make_calls.ensures in
     let start : relay_state code (g.B.Bank.row relay.bank) relay.inner c.open-relay.new.seats c.open-relay.new.lines ≡ opened (numbered a) m nothing row seats lines =
     ap (λ b. relay_state code (g.B.Bank.row b) relay.inner c.open-relay.new.seats c.open-relay.new.lines) o.bank ∙ (o.state ∙ ap (λ x. opened x m nothing row seats lines) (sym o.answer)) in
     let answers = h.answers ∙ ap (λ R. run_answers R calls) start in
     let ended = h.ended ∙ ap (λ R. run_end R calls) start in
-    let refusal : is_err a ≡ true → (c.make-calls.new.seats ≡ c.args.seats.now) × (c.make-calls.new.lines ≡ c.args.lines.now) = λ e.
+    let refusal : is_err a ≡ true → (c.make_calls.new.seats ≡ c.args.seats.now) × (c.make_calls.new.lines ≡ c.args.lines.now) = λ e.
     let before = o.refusal e in
     let after = h.refusal (keeps_refusal m nothing row seats lines a relay.inner.refused (ap (λ (R : RelayState). R.refusal) start) e) in
     (after.0 ∙ before.0, after.1 ∙ before.1) in

@@ -9,10 +9,10 @@ use Rattle.banks_tests.proofs.slots.SlotStore.list.Goals as goal
 filled : (sheet : List Version) → false ≡ eqb (length sheet) 0 → 1 ≤ length sheet
 filled sheet e = omega (arith, eqb-false (length sheet) 0 (sym e))
 
-pub returns-else-is-empty : goal.returns-else-is-empty
-returns-else-is-empty g c =
+pub returns-else-is_empty : goal.returns-else-is_empty
+returns-else-is_empty g c =
     let sheet = c.args.sheet.now in
-    let some = filled sheet c.if-is-empty.ensures in
+    let some = filled sheet c.if-is_empty.ensures in
     let fits = le-leb 1 (length sheet) some in
     let code = g.V.Kind.code in
     record {

@@ -12,5 +12,5 @@ returns-then-sheet-self g c =
 pub returns : goal.returns
 returns g c =
     let f = normal g.V.Kind.decoded g.V.Kind.coded (g.V.Kind.code g.V.Kind.nothing) in
-    let r = list_done g.V.Kind.wide f c.args.self.now c.size-w.result c.args.sheet.now c.list-in.new.sheet c.if-self-w.false c.size-w.ensures c.if-sheet-self.false c.list-in.ensures in
+    let r = list_done g.V.Kind.wide f c.args.self.now c.size-w.result c.args.sheet.now c.list_in.new.sheet c.if-self-w.false c.size-w.ensures c.if-sheet-self.false c.list_in.ensures in
     record { answer = r.0; after = r.1 }

@@ -15,8 +15,8 @@ returns-then-self-w g c =
     let r = put_other g.V.Kind.wide f c.args.self.now (cell c.args.key c.args.version (g.V.Kind.code c.args.value)) (λ e. c.if-self-w.true (e ∙ sym c.size-w.ensures)) in
     record { answer = r.0; after = r.1; log = r.2 }
 
-pub returns-in-err-extent : goal.returns-in-err-extent
-returns-in-err-extent g c =
+pub returns-in_err-extent : goal.returns-in_err-extent
+returns-in_err-extent g c =
     let f = normal g.V.Kind.decoded g.V.Kind.coded (g.V.Kind.code g.V.Kind.nothing) in
     let w = g.met.V.Kind.width in
     let n = c.size-w.ensures in
@@ -27,10 +27,10 @@ returns-in-err-extent g c =
     let v : c.write.new.sheet ≡ g.V.Kind.code c.args.value = written_is g.V.Kind.wide _ _ _ (simp length-take (omega arith)) c.write.ensures.after in
     let same = ap (cell c.args.key c.args.version) v in
     let b = put_back g.V.Kind.wide e (rank_fits c.args.key (omega arith) (omega arith)) (rank_fits c.args.version (omega arith) (omega arith)) (g.met.V.Kind.whole c.args.value) in
-    let l = contents_left c.args.self.now.width c.args.self.now.room c.args.self.now.used c.args.self.now.region.bytes.now c.put.new.self.bytes.now _ (record { used = c.args.self.now.used; count = c.args.self.now.count }) c.in-err-extent.ensures.after in
+    let l = contents_left c.args.self.now.width c.args.self.now.room c.args.self.now.used c.args.self.now.region.bytes.now c.put.new.self.bytes.now _ (record { used = c.args.self.now.used; count = c.args.self.now.count }) c.in_err-extent.ensures.after in
     let r = put_own g.V.Kind.wide f j _ g.V.Kind.wide e d own same b (kept _ _ _ _ _ (g.met.V.Kind.back c.args.value) (g.met.V.Kind.follows c.args.value)) l in
-    let p = err_from_is_err_and c.from-residual.result c.from-residual.ensures.1 in
-    record { answer = rw (p.1, p.2) (c.in-err-extent.ensures.answer ∙ answer_own g.V.Kind.wide f j e d own same); after = r.0; log = r.1 }
+    let p = err_from_is_err_and c.from_residual.result c.from_residual.ensures.1 in
+    record { answer = rw (p.1, p.2) (c.in_err-extent.ensures.answer ∙ answer_own g.V.Kind.wide f j e d own same); after = r.0; log = r.1 }
 
 pub returns : goal.returns
 returns g c =
@@ -44,6 +44,6 @@ returns g c =
     let v : c.write.new.sheet ≡ g.V.Kind.code c.args.value = written_is g.V.Kind.wide _ _ _ (simp length-take (omega arith)) c.write.ensures.after in
     let same = ap (cell c.args.key c.args.version) v in
     let b = put_back g.V.Kind.wide e (rank_fits c.args.key (omega arith) (omega arith)) (rank_fits c.args.version (omega arith) (omega arith)) (g.met.V.Kind.whole c.args.value) in
-    let l = contents_left c.args.self.now.width c.args.self.now.room c.args.self.now.used c.args.self.now.region.bytes.now c.put.new.self.bytes.now _ c.in-ok-extent.extent c.in-ok-extent.ensures.after in
+    let l = contents_left c.args.self.now.width c.args.self.now.room c.args.self.now.used c.args.self.now.region.bytes.now c.put.new.self.bytes.now _ c.in_ok-extent.extent c.in_ok-extent.ensures.after in
     let r = put_own g.V.Kind.wide f j _ g.V.Kind.wide e d own same b (kept _ _ _ _ _ (g.met.V.Kind.back c.args.value) (g.met.V.Kind.follows c.args.value)) l in
-    record { answer = c.in-ok-extent.ensures.answer ∙ answer_own g.V.Kind.wide f j e d own same; after = r.0; log = r.1 }
+    record { answer = c.in_ok-extent.ensures.answer ∙ answer_own g.V.Kind.wide f j e d own same; after = r.0; log = r.1 }

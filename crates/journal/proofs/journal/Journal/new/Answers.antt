@@ -4,14 +4,14 @@ use Rattle.journal.specs.Contents.{Contents, Largest, room_in}
 use Rattle.journal.proofs.Holdings.{held, one_more}
 use Rattle.journal.proofs.journal.Journal.new.Goals as goal
 
-pub invariant-of-result : goal.invariant-of-result
+pub invariant_of-result : goal.invariant_of-result
 unfolding log
-invariant-of-result g c =
+invariant_of-result g c =
     let w = g.met.V.Kind.width in
     let s = c.size-width.ensures in
     let k = c.fill.ensures.len in
     let z : length c.args.bytes.now ≡ length c.fill.new.self - 0 = omega arith in
-    (omega arith, (omega arith, (refl, (c.fill.ensures.after (λ y h. h) ∙ ap (λ n. replicate n 0) z, (refl, (omega arith, (λ h. let f = one_more c.room-in-room.result (13 + c.size-width.result) (length c.args.bytes.now) (c.room-in-room.ensures.most.fits h) in omega arith, tt)))))))
+    (omega arith, (omega arith, (refl, (c.fill.ensures.after (λ y h. h) ∙ ap (λ n. replicate n 0) z, (refl, (omega arith, (λ h. let f = one_more c.room_in-room.result (13 + c.size-width.result) (length c.args.bytes.now) (c.room_in-room.ensures.most.fits h) in omega arith, tt)))))))
 
 pub returns : goal.returns
 unfolding log
@@ -19,5 +19,5 @@ returns g c =
     let s = c.size-width.ensures in
     let n = length c.args.bytes.now in
     let f : ℕ → ℕ → ℕ → Contents = λ w r n. record { width = w; room = r; size = n; records = [] } in
-    let e = ap (λ w. f w c.room-in-room.result (length c.fill.new.self)) s ∙ (ap (λ r. f g.V.Kind.wide r (length c.fill.new.self)) (c.room-in-room.ensures.is ∙ ap (λ w. room_in w n) s) ∙ ap (f g.V.Kind.wide (room_in g.V.Kind.wide n)) c.fill.ensures.len) in
-    record { log = held _ _ e; room = subst (λ w. Largest w n c.room-in-room.result) s c.room-in-room.ensures.most }
+    let e = ap (λ w. f w c.room_in-room.result (length c.fill.new.self)) s ∙ (ap (λ r. f g.V.Kind.wide r (length c.fill.new.self)) (c.room_in-room.ensures.is ∙ ap (λ w. room_in w n) s) ∙ ap (f g.V.Kind.wide (room_in g.V.Kind.wide n)) c.fill.ensures.len) in
+    record { log = held _ _ e; room = subst (λ w. Largest w n c.room_in-room.result) s c.room_in-room.ensures.most }

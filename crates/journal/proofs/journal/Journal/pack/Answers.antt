@@ -7,8 +7,8 @@ use Rattle.journal.proofs.Normals.{provider_pack}
 use Rattle.journal.proofs.Holdings.{held, contents_packed}
 use Rattle.journal.proofs.journal.Journal.pack.Goals as goal
 
-pub invariant-of-self : goal.invariant-of-self
-invariant-of-self c =
+pub invariant_of-self : goal.invariant_of-self
+invariant_of-self c =
     let l = c.pack-self.ensures.after in
     let n = c.pack-self.ensures.size in
     let rs = log c.args.self.now.width (take c.args.self.now.used c.args.self.now.region.bytes.now) in (

@@ -8,14 +8,14 @@ use Rattle.relay.proofs.Exits.{refused_as}
 use Rattle.relay.proofs.RelaySteps.{admission_of, step_is, read_refused, read_found}
 use Rattle.relay.proofs.relay.Relay.begin_read.Goals as goal
 
-pub returns-in-err-at : goal.returns-in-err-at
-returns-in-err-at g c =
+pub returns-in_err-at : goal.returns-in_err-at
+returns-in_err-at g c =
     let code = g.V.Kind.code in
     let row = g.B.Bank.row c.args.self.now.bank in
     let r = c.args.self.now.inner in
     let R = relay_state code row r c.args.seats.now c.args.lines.now in
     record {
-      step = refused_as R acknowledged c.in-err-at.field-0.0 _ _ c.from-residual.ensures.1 (read_refused R c.args.seat c.args.settled (admission_of row r (length c.args.seats.now) (length c.args.lines.now)) (refusal_number c.in-err-at.field-0.0) c.in-err-at.ensures.answer ∙ step_is code row r c.args.seats.now c.args.lines.now (ans.begin_read c.args.seat c.args.settled));
+      step = refused_as R acknowledged c.in_err-at.field-0.0 _ _ c.from_residual.ensures.1 (read_refused R c.args.seat c.args.settled (admission_of row r (length c.args.seats.now) (length c.args.lines.now)) (refusal_number c.in_err-at.field-0.0) c.in_err-at.ensures.answer ∙ step_is code row r c.args.seats.now c.args.lines.now (ans.begin_read c.args.seat c.args.settled));
       beyond = record { seats = refl; lines = refl };
       refusal = λ _. (refl, refl);
     }
@@ -26,12 +26,12 @@ returns g c =
     let row = g.B.Bank.row c.args.self.now.bank in
     let r = c.args.self.now.inner in
     let R = relay_state code row r c.args.seats.now c.args.lines.now in
-    let at = c.in-ok-at.at in
-    let w = c.in-ok-at.ensures.within in
+    let at = c.in_ok-at.at in
+    let w = c.in_ok-at.ensures.within in
     record {
       step =
           ap (with_state R) (c.begin.ensures.step r.looks row (lost_flags r))
-          ∙ (read_found R c.args.seat c.args.settled (admission_of row r (length c.args.seats.now) (length c.args.lines.now)) at c.in-ok-at.ensures.answer
+          ∙ (read_found R c.args.seat c.args.settled (admission_of row r (length c.args.seats.now) (length c.args.lines.now)) at c.in_ok-at.ensures.answer
           ∙ step_is code row r c.args.seats.now c.args.lines.now (ans.begin_read c.args.seat c.args.settled));
       beyond =
           record {

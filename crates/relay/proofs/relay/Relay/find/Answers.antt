@@ -12,11 +12,11 @@ pub returns : goal.returns
 returns g c =
     let m = c.args.self.now.inner.seats in
     let n = size_of (g.B.Bank.row c.args.self.now.bank) in
-    let k = c.in-ok-n.n in
-    let f = admitted_fits (option_map refusal_number c.args.self.now.inner.refused) m n c.args.seats c.args.lines k c.in-ok-n.ensures in
+    let k = c.in_ok-n.n in
+    let f = admitted_fits (option_map refusal_number c.args.self.now.inner.refused) m n c.args.seats c.args.lines k c.in_ok-n.ensures in
     let fits : c.args.self.now.inner.seats ≤ c.args.seats = f.0 in
     record {
-      answer = c.locate.ensures ∙ ap (λ a. line_of a m c.args.seat c.args.provider) c.in-ok-n.ensures;
+      answer = c.locate.ensures ∙ ap (λ a. line_of a m c.args.seat c.args.provider) c.in_ok-n.ensures;
       within =
           IfOk-weaker c.locate.result (InPlace m k) _
           (λ at h.

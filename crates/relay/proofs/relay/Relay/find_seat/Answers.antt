@@ -11,16 +11,16 @@ pub returns : goal.returns
 returns g c =
     let m = c.args.self.now.inner.seats in
     let n = size_of (g.B.Bank.row c.args.self.now.bank) in
-    let k = c.in-ok-n.n in
-    let f = admitted_fits (option_map refusal_number c.args.self.now.inner.refused) m n c.args.seats c.args.lines k c.in-ok-n.ensures in
+    let k = c.in_ok-n.n in
+    let f = admitted_fits (option_map refusal_number c.args.self.now.inner.refused) m n c.args.seats c.args.lines k c.in_ok-n.ensures in
     let fits : c.args.self.now.inner.seats ≤ c.args.seats = f.0 in
     record {
-      answer = c.locate-seat.ensures ∙ ap (λ a. seat_of a m c.args.seat) c.in-ok-n.ensures;
+      answer = c.locate_seat.ensures ∙ ap (λ a. seat_of a m c.args.seat) c.in_ok-n.ensures;
       within =
-          IfOk-weaker c.locate-seat.result (Seated m k) _
+          IfOk-weaker c.locate_seat.result (Seated m k) _
           (λ at h.
           let lt : at.seat < c.args.self.now.inner.seats = h.0 in
           let is = h.1 ∙ f.2 in
           (lt, omega arith, rows_within at.seat m at.providers lt, subst (λ i. m * i ≤ c.args.lines) (sym is) f.1, is))
-          (seated_in c.locate-seat.result m k c.args.seat c.locate-seat.ensures);
+          (seated_in c.locate_seat.result m k c.args.seat c.locate_seat.ensures);
     }

@@ -10,27 +10,27 @@ use Rattle.relay.proofs.Exits.{refused_as}
 use Rattle.relay.proofs.RelaySteps.{admission_of, step_is, lose_refused, lose_found, already_lost, now_lost}
 use Rattle.relay.proofs.relay.Relay.lose.Goals as goal
 
-pub returns-in-err-i : goal.returns-in-err-i
-returns-in-err-i g c =
+pub returns-in_err-i : goal.returns-in_err-i
+returns-in_err-i g c =
     let code = g.V.Kind.code in
     let row = g.B.Bank.row c.args.self.now.bank in
     let r = c.args.self.now.inner in
     let R = relay_state code row r c.args.seats.now c.args.lines.now in
     record {
-      step = refused_as R acknowledged c.in-err-i.field-0.0 _ _ c.from-residual.ensures.1 (lose_refused R c.args.provider (admission_of row r (length c.args.seats.now) (length c.args.lines.now)) (refusal_number c.in-err-i.field-0.0) c.in-err-i.ensures ∙ step_is code row r c.args.seats.now c.args.lines.now (ans.lose c.args.provider));
+      step = refused_as R acknowledged c.in_err-i.field-0.0 _ _ c.from_residual.ensures.1 (lose_refused R c.args.provider (admission_of row r (length c.args.seats.now) (length c.args.lines.now)) (refusal_number c.in_err-i.field-0.0) c.in_err-i.ensures ∙ step_is code row r c.args.seats.now c.args.lines.now (ans.lose c.args.provider));
       refusal = λ _. refl;
     }
 
-pub returns-then-is-lost : goal.returns-then-is-lost
-returns-then-is-lost g c =
+pub returns-then-is_lost : goal.returns-then-is_lost
+returns-then-is_lost g c =
     let code = g.V.Kind.code in
     let row = g.B.Bank.row c.args.self.now.bank in
     let r = c.args.self.now.inner in
     let R = relay_state code row r c.args.seats.now c.args.lines.now in
     record {
       step =
-          ap (with_state R) (already_lost c.in-ok-i.i R.state (sym c.is-lost.ensures ∙ c.if-is-lost.true))
-          ∙ (lose_found R c.args.provider (admission_of row r (length c.args.seats.now) (length c.args.lines.now)) c.in-ok-i.i c.in-ok-i.ensures
+          ap (with_state R) (already_lost c.in_ok-i.i R.state (sym c.is_lost.ensures ∙ c.if-is_lost.true))
+          ∙ (lose_found R c.args.provider (admission_of row r (length c.args.seats.now) (length c.args.lines.now)) c.in_ok-i.i c.in_ok-i.ensures
           ∙ step_is code row r c.args.seats.now c.args.lines.now (ans.lose c.args.provider));
       refusal = λ _. refl;
     }
@@ -47,8 +47,8 @@ returns g c =
     record {
       step =
           ap (λ o. f o q.seats q.looks) h.refused ∙ (ap (λ m. f r.refused m q.looks) h.seats ∙ (ap (f r.refused r.seats) h.looks
-          ∙ (ap (with_state R) (now_lost c.in-ok-i.i R.state (lost_flags q) (sym c.is-lost.ensures ∙ c.if-is-lost.false) h.flags)
-          ∙ (lose_found R c.args.provider (admission_of row r (length c.args.seats.now) (length c.args.lines.now)) c.in-ok-i.i c.in-ok-i.ensures
+          ∙ (ap (with_state R) (now_lost c.in_ok-i.i R.state (lost_flags q) (sym c.is_lost.ensures ∙ c.if-is_lost.false) h.flags)
+          ∙ (lose_found R c.args.provider (admission_of row r (length c.args.seats.now) (length c.args.lines.now)) c.in_ok-i.i c.in_ok-i.ensures
           ∙ step_is code row r c.args.seats.now c.args.lines.now (ans.lose c.args.provider)))));
       refusal = λ e. absurd (false≢true e);
     }

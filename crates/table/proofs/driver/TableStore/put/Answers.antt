@@ -9,16 +9,16 @@ use Rattle.table.proofs.Invariants.{used_count, put_table}
 use Rattle.table.proofs.Providers.{put_means, put_accepted, put_refused}
 use Rattle.table.proofs.driver.TableStore.put.Goals as goal
 
-pub invariant-of-self : goal.invariant-of-self
-invariant-of-self g c =
+pub invariant_of-self : goal.invariant_of-self
+invariant_of-self g c =
     let t = c.args.self.now in
     let e : Entry g.row.V.Denot = record { key = c.args.key; version = c.args.version; value = c.args.value } in
     let a = put_accepted g.V.Kind.code t.room (used_entries t) e c.in-Ok.after c.in-Ok.ensures.answer in
     let h = put_table t e c.put.new.self.entries.now c.in-Ok.after a.2 c.put.ensures.after in
     (h.within, (h.fits, (h.sorted, (h.laid, tt))))
 
-pub invariant-of-self-in-Err· : goal.invariant-of-self-in-Err·
-invariant-of-self-in-Err· g c =
+pub invariant_of-self-in-Err· : goal.invariant_of-self-in-Err·
+invariant_of-self-in-Err· g c =
     let t = c.args.self.now in
     let e : Entry g.row.V.Denot = record { key = c.args.key; version = c.args.version; value = c.args.value } in
     let a = put_refused g.V.Kind.code t.room (used_entries t) e _ c.in-Err.ensures.answer in

@@ -10,8 +10,8 @@ use Rattle.table.proofs.Invariants.{remove_table}
 use Rattle.table.proofs.Providers.{remove_means}
 use Rattle.table.proofs.driver.TableStore.remove.Goals as goal
 
-pub invariant-of-self : goal.invariant-of-self
-invariant-of-self g c =
+pub invariant_of-self : goal.invariant_of-self
+invariant_of-self g c =
     let h = remove_table c.args.self.now (rank c.args.key) c.remove_after.new.self.entries.now c.remove_after.result c.remove_after.ensures.answer c.remove_after.ensures.after in
     (h.within, (h.fits, (h.sorted, (h.laid, tt))))
 

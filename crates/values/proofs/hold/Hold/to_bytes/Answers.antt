@@ -7,5 +7,5 @@ use Rattle.values.proofs.hold.Hold.to_bytes.Goals as goal
 pub returns-in-Held : goal.returns-in-Held
 returns-in-Held c =
     let p : proper c.in-Held.seat c.in-Held.first c.in-Held.last ≡ true = grind (arith, nat_tests) in
-    held_bytes c.in-Held.seat c.in-Held.first c.in-Held.last c.to-le-bytes.result c.to-le-bytes-in-Held.result c.to-le-bytes-in-Held-2.result p c.to-le-bytes.ensures c.to-le-bytes-in-Held.ensures c.to-le-bytes-in-Held-2.ensures
+    held_bytes c.in-Held.seat c.in-Held.first c.in-Held.last c.to_le_bytes.result c.to_le_bytes-in-Held.result c.to_le_bytes-in-Held-2.result p c.to_le_bytes.ensures c.to_le_bytes-in-Held.ensures c.to_le_bytes-in-Held-2.ensures
     ∙ ap (λ h. hold_code (hold_means h)) (sym c.in-Held.is)

@@ -16,5 +16,5 @@ returns-in-Right g c =
     let step = put_after (cell c.args.key c.args.version (g.V.Kind.code c.args.value)) in
     record {
       answer = search rules;
-      after = ap (λ r. g.L.Bank.row c.args.self.now.left ++ r) c.put_in-Right.ensures.after ∙ sym (c.in-Right.ensures.stepped step);
+      after = ap (λ r. g.L.Bank.row c.args.self.now.left ++ r) c.put-in-Right.ensures.after ∙ sym (c.in-Right.ensures.stepped step);
     }

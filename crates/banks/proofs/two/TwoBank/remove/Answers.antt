@@ -16,5 +16,5 @@ returns-in-Right g c =
     let step = remove_after (rank c.args.key) in
     record {
       answer = search rules;
-      after = ap (λ r. g.L.Bank.row c.args.self.now.left ++ r) c.remove_in-Right.ensures.after ∙ sym (c.in-Right.ensures.stepped step);
+      after = ap (λ r. g.L.Bank.row c.args.self.now.left ++ r) c.remove-in-Right.ensures.after ∙ sym (c.in-Right.ensures.stepped step);
     }

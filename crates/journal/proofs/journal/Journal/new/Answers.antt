@@ -11,7 +11,15 @@ invariant_of-result g c =
     let s = c.size-width.ensures in
     let k = c.fill.ensures.len in
     let z : length c.args.bytes.now ≡ length c.fill.new.self - 0 = omega arith in
-    (omega arith, (omega arith, (refl, (c.fill.ensures.after (λ y h. h) ∙ ap (λ n. replicate n 0) z, (refl, (omega arith, (λ h. let f = one_more c.room_in-room.result (13 + c.size-width.result) (length c.args.bytes.now) (c.room_in-room.ensures.most.fits h) in omega arith, tt)))))))
+    record {
+      narrow = omega arith;
+      within = omega arith;
+      whole = refl;
+      zeros = c.fill.ensures.after (λ y h. h) ∙ ap (λ n. replicate n 0) z;
+      counted = refl;
+      few = omega arith;
+      fits = λ h. let f = one_more c.room_in-room.result (13 + c.size-width.result) (length c.args.bytes.now) (c.room_in-room.ensures.most.fits h) in omega arith;
+    }
 
 pub returns : goal.returns
 unfolding log

@@ -11,25 +11,16 @@ pub invariant_of-self : goal.invariant_of-self
 invariant_of-self c =
     let l = c.pack-self.ensures.after in
     let n = c.pack-self.ensures.size in
-    let rs = log c.args.self.now.width (take c.args.self.now.used c.args.self.now.region.bytes.now) in (
-      c.args.self.now.narrow,
-      (
-        l.within,
-        (
-          ap (sound c.args.self.now.width) l.is ∙ l.sounds,
-          (
-            l.zeros,
-            (
-              c.args.self.now.counted ∙ ap length (sym (replay_live rs)) ∙ ap (λ xs. length (replay xs)) (sym l.is),
-              (
-                c.args.self.now.few,
-                (λ h. let f = c.args.self.now.fits h in omega arith, tt),
-              ),
-            ),
-          ),
-        ),
-      ),
-    )
+    let rs = log c.args.self.now.width (take c.args.self.now.used c.args.self.now.region.bytes.now) in
+    record {
+      narrow = c.args.self.now.narrow;
+      within = l.within;
+      whole = ap (sound c.args.self.now.width) l.is ∙ l.sounds;
+      zeros = l.zeros;
+      counted = c.args.self.now.counted ∙ ap length (sym (replay_live rs)) ∙ ap (λ xs. length (replay xs)) (sym l.is);
+      few = c.args.self.now.few;
+      fits = λ h. let f = c.args.self.now.fits h in omega arith;
+    }
 
 pub returns : goal.returns
 returns c =

@@ -15,15 +15,15 @@ invariant_of-self g c =
     let e : Entry g.row.V.Denot = record { key = c.args.key; version = c.args.version; value = c.args.value } in
     let a = put_accepted g.V.Kind.code t.room (used_entries t) e c.in-Ok.after c.in-Ok.ensures.answer in
     let h = put_table t e c.put.new.self.entries.now c.in-Ok.after a.2 c.put.ensures.after in
-    (h.within, (h.fits, (h.sorted, (h.laid, tt))))
+    record { within = h.within; fits = h.fits; sorted = h.sorted; laid = h.laid }
 
-pub invariant_of-self-in-Err· : goal.invariant_of-self-in-Err·
-invariant_of-self-in-Err· g c =
+pub invariant_of-self-in-Err-1 : goal.invariant_of-self-in-Err-1
+invariant_of-self-in-Err-1 g c =
     let t = c.args.self.now in
     let e : Entry g.row.V.Denot = record { key = c.args.key; version = c.args.version; value = c.args.value } in
     let a = put_refused g.V.Kind.code t.room (used_entries t) e _ c.in-Err.ensures.answer in
     let h = put_table t e c.put.new.self.entries.now t.used (sym (ap length a.1 ∙ used_count t)) c.put.ensures.after in
-    (h.within, (h.fits, (h.sorted, (h.laid, tt))))
+    record { within = h.within; fits = h.fits; sorted = h.sorted; laid = h.laid }
 
 pub returns-in-Ok : goal.returns-in-Ok
 returns-in-Ok g c =

@@ -12,12 +12,12 @@ use Rattle.table.proofs.driver.TableStore.remove.Goals as goal
 
 pub invariant_of-self : goal.invariant_of-self
 invariant_of-self g c =
-    let h = remove_table c.args.self.now (rank c.args.key) c.remove_after.new.self.entries.now c.remove_after.result c.remove_after.ensures.answer c.remove_after.ensures.after in
-    (h.within, (h.fits, (h.sorted, (h.laid, tt))))
+    let h = remove_table c.args.self.now (rank c.args.key) c.remove-after.new.self.entries.now c.remove-after.result c.remove-after.ensures.answer c.remove-after.ensures.after in
+    record { within = h.within; fits = h.fits; sorted = h.sorted; laid = h.laid }
 
 pub returns : goal.returns
 returns g c =
     let t = c.args.self.now in
-    let h = remove_table c.args.self.now (rank c.args.key) c.remove_after.new.self.entries.now c.remove_after.result c.remove_after.ensures.answer c.remove_after.ensures.after in
+    let h = remove_table c.args.self.now (rank c.args.key) c.remove-after.new.self.entries.now c.remove-after.result c.remove-after.ensures.answer c.remove-after.ensures.after in
     let f : List (Entry g.row.V.Denot) → Provider = λ xs. record { capacity = t.room; cells = map (entry_cell g.V.Kind.code) xs } in
     record { after = ap f h.front ∙ remove_means g.V.Kind.code t.room (used_entries t) (rank c.args.key); entries = h.entries (Coded-set (the_row g.row.V).coded); same = refl }

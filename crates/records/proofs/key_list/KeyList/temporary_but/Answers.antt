@@ -10,14 +10,14 @@ pub loop-i-preserved : goal.loop-i-preserved
 loop-i-preserved c =
     elim c.if-not-skips.branch [
       | then-not-skips w ↦ (
-        omega (arith, w.count_is),
+        omega (arith, w.count-is),
         ap length w.chosen-is ∙ (length-set c.loop-i.chosen c.loop-i.count (get_or c.args.self.now.keys c.loop-i.i first) ∙ c.loop-i.invariant.1),
-        chosen_one c.args.self.now.keys c.loop-i.chosen c.if-not-skips.chosen c.loop-i.i c.args.self.now.end 32 (rank c.args.other) c.loop-i.count c.if-not-skips.count _ (omega arith) (omega arith) c.loop-i.invariant.2 (sym w.if-not-skips.ensures) (omega arith) w.chosen-is w.count_is,
+        chosen_one c.args.self.now.keys c.loop-i.chosen c.if-not-skips.chosen c.loop-i.i c.args.self.now.end 32 (rank c.args.other) c.loop-i.count c.if-not-skips.count _ (omega arith) (omega arith) c.loop-i.invariant.2 (sym w.if-not-skips.ensures) (omega arith) w.chosen-is w.count-is,
       )
       | else-not-skips w ↦ (
-        omega (arith, w.count_is),
+        omega (arith, w.count-is),
         ap length w.chosen-is ∙ c.loop-i.invariant.1,
-        skipped_one c.args.self.now.keys c.loop-i.chosen c.if-not-skips.chosen c.loop-i.i c.args.self.now.end 32 (rank c.args.other) c.loop-i.count c.if-not-skips.count _ (omega arith) (omega arith) c.loop-i.invariant.2 (sym w.if-not-skips.ensures) w.chosen-is w.count_is,
+        skipped_one c.args.self.now.keys c.loop-i.chosen c.if-not-skips.chosen c.loop-i.i c.args.self.now.end 32 (rank c.args.other) c.loop-i.count c.if-not-skips.count _ (omega arith) (omega arith) c.loop-i.invariant.2 (sym w.if-not-skips.ensures) w.chosen-is w.count-is,
       )
     ]
 

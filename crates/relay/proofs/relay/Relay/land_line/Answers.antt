@@ -39,8 +39,8 @@ returns-in-Answered g c =
       inner = refl;
     }
 
-pub returns-in_err-answer : goal.returns-in_err-answer
-returns-in_err-answer g c =
+pub returns-in_err-answer-in-Sent : goal.returns-in_err-answer-in-Sent
+returns-in_err-answer-in-Sent g c =
     let code = g.V.Kind.code in
     let row = g.B.Bank.row c.args.self.now.bank in
     let lines = lines_mean code c.args.lines.now in
@@ -48,16 +48,16 @@ returns-in_err-answer g c =
     let q = request_means code line.request in
     let i = c.args.at.provider in
     let z : c.args.at.provider + 1 - 1 ≡ c.args.at.provider = omega arith in
-    let h = subst (λ k. Asked code q k (get_or row k absent) row (Err c.in_err-answer.field-0.0) (g.B.Bank.row c.ask.new.bank)) z c.in_err-answer.ensures in
+    let h = subst (λ k. Asked code q k (get_or row k absent) row (Err c.in_err-answer-in-Sent.field-0.0) (g.B.Bank.row c.ask.new.bank)) z c.in_err-answer-in-Sent.ensures in
     record {
-      landed = landed_by c.args.at (lost_flags c.args.self.now.inner) row (g.B.Bank.row c.ask.new.bank) lines lines (acknowledged c.from_residual.result) false (lin.sent line.stale q) (Err 16) (sym c.is_lost.ensures ∙ c.if-is_lost.false) (ap (λ (l : lin.Line). l.state) (sym c.read_line-line.ensures) ∙ ap (λ t. transit_means code t line) c.in-Sent.is) (cond-true (too_long q (get_or row i absent)) _ _ h.0) (ap acknowledged (handed_on c.in_err-answer.field-0.0 c.from_residual.result c.from_residual.ensures.1) ∙ ap refused h.1, h.2, refl);
+      landed = landed_by c.args.at (lost_flags c.args.self.now.inner) row (g.B.Bank.row c.ask.new.bank) lines lines (acknowledged c.from_residual.result) false (lin.sent line.stale q) (Err 16) (sym c.is_lost.ensures ∙ c.if-is_lost.false) (ap (λ (l : lin.Line). l.state) (sym c.read_line-line.ensures) ∙ ap (λ t. transit_means code t line) c.in-Sent.is) (cond-true (too_long q (get_or row i absent)) _ _ h.0) (ap acknowledged (handed_on c.in_err-answer-in-Sent.field-0.0 c.from_residual.result c.from_residual.ensures.1) ∙ ap refused h.1, h.2, refl);
       beyond = λ j le. refl;
       refusal = λ _. refl;
       inner = refl;
     }
 
-pub returns-in_ok-answer : goal.returns-in_ok-answer
-returns-in_ok-answer g c =
+pub returns-in_ok-answer-in-Sent : goal.returns-in_ok-answer-in-Sent
+returns-in_ok-answer-in-Sent g c =
     let code = g.V.Kind.code in
     let row = g.B.Bank.row c.args.self.now.bank in
     let lines = lines_mean code c.args.lines.now in
@@ -66,7 +66,7 @@ returns-in_ok-answer g c =
     let i = c.args.at.provider in
     let k = c.args.at.seat * c.args.at.providers + c.args.at.provider in
     let z : c.args.at.provider + 1 - 1 ≡ c.args.at.provider = omega arith in
-    let h = subst (λ k. Asked code q k (get_or row k absent) row (Ok c.in_ok-answer.answer) (g.B.Bank.row c.ask.new.bank)) z c.in_ok-answer.ensures in
+    let h = subst (λ k. Asked code q k (get_or row k absent) row (Ok c.in_ok-answer-in-Sent.answer) (g.B.Bank.row c.ask.new.bank)) z c.in_ok-answer-in-Sent.ensures in
     let f : req.Reply → lin.Progress → lin.Line = λ r p. record { state = lin.answered line.stale r; progress = p } in
     let progress = ap (λ (l : lin.Line). l.progress) c.read_line-line.ensures in
     record {

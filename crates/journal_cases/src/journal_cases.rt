@@ -147,7 +147,7 @@ fn read_back<V: Kind>(bytes: &mut [u8], value: V) -> Option<V> {
 fn values_of_both_kinds_are_read_back(rt: HostRuntime) -> Result<(), Fail> {
     let mut bytes = vec![in rt.alloc(); 5; 124]?;
     match read_back(&mut bytes, Secret::new(b"open sesame")?) {
-        Some(secret) => assert!(rt; secret.as_bytes() == b"open sesame"),
+        Some(secret) => assert!(rt; secret.as_bytes() == b"open sesame".as_slice()),
         None => assert!(rt; false),
     }
     match read_back(&mut bytes, Hold::new(3, 10, 20)?) {

@@ -1,5 +1,5 @@
 -- A fetch as a whole.
-use Rattle.std.proofs.Common.{◌≡◌, ℕ, suc, ◌<◌, ◌≤◌, Bool, true, false, ◌&&◌, ◌≢◌, None, sym, refl, ap, ◌∙◌, subst, subst₂}
+use Rattle.std.proofs.Common.{◌≡◌, ℕ, suc, ◌<◌, ◌≤◌, Bool, true, false, ◌&&◌, None, sym, refl, ap, ◌∙◌, subst, subst₂}
 use Rattle.std.proofs.lemmas.Bool.{cond_both, true≢false}
 use Rattle.protocol.specs.Answers.{Answer}
 use Rattle.protocol.specs.History.{fetch_noted}

@@ -1,10 +1,10 @@
 -- Fetch keeps a view and its history matched to a run.
-use Rattle.std.proofs.Common.{◌≡◌, ℕ, suc, ◌+◌, ◌/◌, ◌<◌, ◌≤◌, Bool, true, false, cond, ◌&&◌, eqb, leb, ◌≢◌, List, [], ◌∷◌, ◌++◌, Some, None, Option, sym, refl, ap, ◌∙◌, subst, subst₂, inl, inr, arith}
+use Rattle.std.proofs.Common.{◌≡◌, ℕ, suc, ◌/◌, ◌<◌, ◌≤◌, Bool, true, false, cond, ◌&&◌, eqb, leb, ◌≢◌, List, [], ◌∷◌, ◌++◌, Some, None, Option, sym, refl, ap, ◌∙◌, subst, subst₂, inl, inr, arith}
 use Rattle.std.proofs.lemmas.Bool.{cond_both, cond-true, cases_eq, eq-eqb, leb-true, leb-false}
 use Rattle.stores.specs.Provider.{Pair}
 use Rattle.protocol.specs.Answers.{on}
 use Rattle.protocol.specs.History.{History, Operation, Doing, resting, writing, reading, update, fetch_noted, wrote_by, read_by}
-use Rattle.protocol.specs.Lines.{is_free, restarted, restart_line}
+use Rattle.protocol.specs.Lines.{restarted, restart_line}
 use Rattle.protocol.specs.Phases.{count, majority, done_lines, listed_on, largest_listed, found_on, version_in, newest_found, next_version, most, PhaseResult, goes_on, end_gathering, phase_result}
 use Rattle.protocol.specs.Seats.{Activity, idle, listing, gathering, storing}
 use Rattle.protocol.proofs.Arrangements.{Insert, Arranged, more, to_front, from_front, insert_under, ordered_inserted, ended_arranged}

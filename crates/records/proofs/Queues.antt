@@ -1,10 +1,10 @@
 -- Facts of lists of keys: the keys from one place on and before another, of 32.
-use Rattle.std.proofs.Common.{◌≡◌, ℕ, ◌+◌, ◌-◌, ◌<◌, ◌≤◌, min, max, Bool, true, false, cond, ◌||◌, eqb, ltb, List, [], ◌∷◌, ◌++◌, map, length, get_or, take, drop, set, sym, refl, ap, ◌∙◌, ⊎_elim, arith}
-use Rattle.std.proofs.lemmas.List.{length-map, length-take, length-take-le, length-drop, get_or-map, get_or-drop, get_or-take, get_or_past, drop-map, drop-drop, drop_all, drop_more, map_push, take_more_set, append_assoc, append-nil}
+use Rattle.std.proofs.Common.{◌≡◌, ℕ, ◌+◌, ◌-◌, ◌<◌, ◌≤◌, min, true, false, ◌||◌, eqb, ltb, List, [], ◌∷◌, ◌++◌, map, length, get_or, take, drop, set, sym, refl, ap, ◌∙◌, ⊎_elim, arith}
+use Rattle.std.proofs.lemmas.List.{length-map, length-take, length-drop, get_or-map, get_or-drop, get_or-take, get_or_past, drop-map, drop-drop, drop_all, drop_more, map_push, take_more_set, append_assoc}
 use Rattle.std.proofs.lemmas.Bool.{lt-ltb, le-ltb, cases_lt, cond-true, cond-false}
 use Rattle.values.specs.Rank.{rank}
 use Rattle.values.specs.declared.version.Version.{Version}
-use Rattle.protocol.specs.Moves.{largest_key, keys_but}
+use Rattle.protocol.specs.Moves.{keys_but}
 use Rattle.protocol.specs.Stages.{any_left}
 
 abbrev pub first : Version

@@ -1,5 +1,5 @@
 -- What a bank's answers say of one provider.
-use Rattle.std.proofs.Common.{◌≡◌, ℕ, ◌-◌, Bool, true, false, cond, ltb, leb, List, [], ◌∷◌, map, length, get_or, take, Ok, Err, Result, sym, refl, ap, ◌∙◌, arith}
+use Rattle.std.proofs.Common.{◌≡◌, ℕ, ◌-◌, Bool, true, false, cond, ltb, leb, List, [], ◌∷◌, map, length, get_or, take, Ok, Err, Result, refl, ap, ◌∙◌, arith}
 use Rattle.std.proofs.lemmas.Bool.{cond-true, leb-true, le-ltb}
 use Rattle.values.specs.Rank.{rank, version_of}
 use Rattle.values.specs.declared.version.Version.{Version}

@@ -1,5 +1,5 @@
 -- Land, from what its check comes to.
-use Rattle.std.proofs.Common.{◌≡◌, ℕ, ◌+◌, ◌-◌, ◌*◌, Bool, true, false, cond, ◌&&◌, ltb, List, length, get_or, set, Ok, Err, Result, sym, refl, ap, ◌∙◌, subst, ap₂, arith}
+use Rattle.std.proofs.Common.{◌≡◌, ℕ, ◌+◌, ◌*◌, Bool, true, false, cond, ◌&&◌, ltb, List, length, get_or, set, Ok, Err, Result, sym, refl, ap, ◌∙◌, subst, ap₂}
 use Rattle.std.proofs.lemmas.Bool.{and_right}
 use Rattle.stores.specs.Provider.{Provider}
 use Rattle.banks.specs.Row.{absent}
@@ -8,9 +8,9 @@ use Rattle.protocol.specs.Lines as lin
 use Rattle.protocol.specs.Lines.{LineState, free, sent, answered, Progress}
 use Rattle.protocol.specs.Requests.{Request, list_keys, get_key, put_cell, remove_key, reply, served}
 use Rattle.protocol.specs.State.{State, line_at, provider_at, lost_at}
-use Rattle.protocol.specs.Steps.{land_line, land_at}
-use Rattle.relay.specs.Effects.{too_long, landing, land_check, LandedAs, Landed}
-use Rattle.relay.specs.RelayState.{asks_list, is_ok, overlong, unless_overlong}
+use Rattle.protocol.specs.Steps.{land_line}
+use Rattle.relay.specs.Effects.{landing, land_check, LandedAs, Landed}
+use Rattle.relay.specs.RelayState.{asks_list, overlong, unless_overlong}
 use Rattle.relay.specs.Sheets.{land_on}
 use Rattle.relay.specs.declared.place.Place.{Place}
 

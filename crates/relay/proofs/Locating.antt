@@ -1,6 +1,6 @@
 -- What is known of a line that was found, and what a call answers where none is.
-use Rattle.std.proofs.Common.{◌≡◌, ℕ, ◌+◌, ◌-◌, ◌*◌, ◌<◌, ◌≤◌, Bool, true, false, cond, not, ◌&&◌, ◌||◌, ltb, leb, IfOk, Some, None, Ok, Err, Option, Result, sym, refl, ap, ◌∙◌, ⊎_elim, mul-le-mul_right, add-mul, arith}
-use Rattle.std.proofs.lemmas.Bool.{cases_Bool, or_parts, and_parts, not-false, ltb-false, leb-true}
+use Rattle.std.proofs.Common.{◌≡◌, ℕ, ◌+◌, ◌-◌, ◌*◌, ◌<◌, ◌≤◌, Bool, true, false, cond, ◌&&◌, ◌||◌, ltb, leb, IfOk, Some, None, Ok, Err, Option, Result, refl, ap, mul-le-mul_right, add-mul, arith}
+use Rattle.std.proofs.lemmas.Bool.{or_parts, and_parts, not-false, ltb-false, leb-true}
 use Rattle.values.specs.Refusals.{numbered}
 use Rattle.values.specs.declared.refusal.Refusal.{Refusal}
 use Rattle.protocol.specs.Steps.{outside}

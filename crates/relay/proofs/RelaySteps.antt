@@ -15,7 +15,7 @@ use Rattle.records.specs.Means.{line_means, seat_means}
 use Rattle.records.specs.declared.line.Line.{Line}
 use Rattle.records.specs.declared.seat.Seat.{Seat}
 use Rattle.relay.specs.Checks.{located, seated, post_check}
-use Rattle.relay.specs.RelayState.{RelayState, overlong, unless_overlong, is_ok, admission, admitted, with_state, relay_state, relay_step, line_of, seat_of, provider_of}
+use Rattle.relay.specs.RelayState.{RelayState, overlong, unless_overlong, admission, admitted, with_state, relay_state, relay_step, line_of, seat_of, provider_of}
 use Rattle.relay.specs.Sheets.{acknowledged, post_on, land_on, fetch_on}
 use Rattle.relay.specs.declared.inner.Inner.{Inner}
 use Rattle.relay.specs.declared.place.Place.{Place}

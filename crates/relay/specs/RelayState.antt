@@ -5,7 +5,7 @@ use Rattle.stores.specs.Provider.{Provider}
 use Rattle.banks.specs.Row.{size_of}
 use Rattle.protocol.specs.Answers.{Call, begin_write, begin_read, post, land, fetch, stop, lose, Answer, ok, on, dropped, wrote, read, read_none, used, refused}
 use Rattle.protocol.specs.Lines.{LineState, free, sent, answered}
-use Rattle.protocol.specs.Requests.{Request, list_keys, get_key, put_cell, remove_key}
+use Rattle.protocol.specs.Requests.{list_keys, get_key, put_cell, remove_key}
 use Rattle.protocol.specs.State.{State, line_at, provider_at}
 use Rattle.protocol.specs.Steps.{step, outside}
 use Rattle.records.specs.declared.line.Line.{Line}

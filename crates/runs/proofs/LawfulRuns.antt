@@ -1,5 +1,5 @@
 -- On a relay that open accepted, every call is the protocol's step; so the law of the protocol's runs is that of the relay's.
-use Rattle.std.proofs.Common.{◌≡◌, ℕ, zero, suc, ◌+◌, ◌-◌, ◌*◌, ◌^◌, ◌<◌, ◌≤◌, min, Bool, false, cond, ◌&&◌, ◌||◌, ltb, List, [], ◌∷◌, length, get_or, None, Ok, Err, Result, sym, refl, ap, ◌∙◌, ap₂, subst₂, arith}
+use Rattle.std.proofs.Common.{◌≡◌, ℕ, zero, suc, ◌+◌, ◌-◌, ◌*◌, ◌^◌, ◌<◌, ◌≤◌, false, ◌&&◌, ◌||◌, ltb, List, [], ◌∷◌, length, get_or, None, Ok, Err, sym, refl, ap, ◌∙◌, subst₂, arith}
 use native.Mathlib.Nat.{min-eq_left}
 use Rattle.std.specs.List.{AllByRecursion as All}
 use Rattle.std.proofs.lemmas.Bool.{and_left, and_right, or_from, le-ltb, cond-false}
@@ -14,9 +14,9 @@ use Rattle.protocol.specs.State.{State, no_provider, provider_at, line_at}
 use Rattle.protocol.specs.Steps.{step}
 use Rattle.protocol.proofs.Lawfulness.{Sound, sound, first, bounded, law}
 use Rattle.relay.specs.Opening.{open_check, opened}
-use Rattle.relay.specs.RelayState.{RelayState, admission, admitted, asks_list, overlong, unless_overlong, is_ok, relay_call, relay_step}
+use Rattle.relay.specs.RelayState.{RelayState, admission, admitted, asks_list, overlong, is_ok, relay_call, relay_step}
 use Rattle.runs.specs.Runs.{run_answers, run_end}
-use Rattle.runs.proofs.Openings.{Passed, passed, is_opened, few_sized}
+use Rattle.runs.proofs.Openings.{passed, is_opened, few_sized}
 
 -- what holds of all providers holds of each, also of one that there is not
 any_place : (P : Provider → Type 0) (row : List Provider) → All P row → P no_provider → (i : ℕ) → P (get_or row i no_provider)

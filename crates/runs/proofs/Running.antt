@@ -1,5 +1,5 @@
 -- One more call of a list, and the last one.
-use Rattle.std.proofs.Common.{◌≡◌, ℕ, ◌+◌, ◌<◌, ◌≤◌, List, [], ◌∷◌, ◌++◌, map, length, get_or, take, drop, set, sym, refl, ap, ◌∙◌}
+use Rattle.std.proofs.Common.{◌≡◌, ℕ, ◌+◌, ◌<◌, ◌≤◌, List, [], ◌∷◌, ◌++◌, map, length, get_or, take, drop, set, sym, ap, ◌∙◌}
 use Rattle.std.proofs.lemmas.List.{take_more_set, drop_more, drop_all, take_all, map_push, append_assoc, append-nil}
 use Rattle.protocol.specs.Answers.{Call, Answer}
 use Rattle.relay.specs.RelayState.{RelayState, relay_step}

@@ -1,12 +1,12 @@
 -- What the entries of a table mean, before and after a put and a remove.
-use Rattle.std.proofs.Common.{◌≡◌, ℕ, ◌<◌, ◌≤◌, Bool, true, false, cond, ◌||◌, ltb, leb, List, [], ◌∷◌, ◌++◌, map, length, drop, is_some, Some, None, Ok, Err, Option, Result, sym, refl, ap, ◌∙◌, arith}
+use Rattle.std.proofs.Common.{◌≡◌, ℕ, ◌<◌, ◌≤◌, Bool, true, false, cond, ◌||◌, ltb, leb, List, ◌++◌, map, length, drop, is_some, Some, None, Ok, Err, Option, Result, sym, refl, ap, ◌∙◌, arith}
 use Rattle.std.specs.Option.{option_map}
 use Rattle.std.proofs.lemmas.List.{length-map}
 use Rattle.std.proofs.lemmas.Bool.{le-leb, lt-leb, cond-true, cond-false}
 use Rattle.values.specs.Rank.{version_of}
 use Rattle.values.specs.declared.version.Version.{Version}
-use Rattle.stores.specs.Keyed.{ascending, find, put, without}
-use Rattle.stores.specs.Provider.{Cell, Pair, Provider, cell_key, keys}
+use Rattle.stores.specs.Keyed.{find, put, without}
+use Rattle.stores.specs.Provider.{Cell, Provider, cell_key, keys}
 use Rattle.stores.specs.Operations.{room_for, put_answer, put_after, remove_after, get_answer, list_answer, list_sheet}
 use Rattle.stores.proofs.KeyedLists.{cond_map, map_keys, find_map, put_map, without_map}
 use Rattle.table.specs.Entries.{entry_key, entry_cell, entry_fits, put_entry, put_used}

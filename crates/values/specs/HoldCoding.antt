@@ -1,8 +1,8 @@
-use Rattle.std.specs.Prelude.{◌≡◌, ℕ, ◌/◌, ◌%◌, ◌^◌, true, cond, ◌&&◌, List, [], ◌∷◌, ◌++◌, length, Some, nat_le, nat_lt, slice_index, refl}
-use Rattle.std.proofs.Common.{sym, ap, ◌∙◌, arith}
+use Rattle.std.specs.Prelude.{◌≡◌, ℕ, ◌/◌, ◌%◌, ◌^◌, true, ◌&&◌, List, [], ◌∷◌, ◌++◌, length, Some, nat_le, nat_lt, slice_index, refl}
+use Rattle.std.proofs.Common.{sym, ◌∙◌, arith}
 use Rattle.std.proofs.lemmas.Bool.{cond_both, and_parts, ltb-true, leb-true}
 use Rattle.values.specs.Little.{little}
-use Rattle.values.specs.Holds.{proper, hold_means, hold_code, hold_decoded, held_decoded}
+use Rattle.values.specs.Holds.{proper, hold_means, hold_code, hold_decoded}
 use Rattle.values.specs.declared.hold.Hold.{Hold}
 use Rattle.values.specs.declared.hold.Hold.TheVariants.{Free, Held}
 use Rattle.values.specs.LittleEndian.{little_four, unlittle_little}

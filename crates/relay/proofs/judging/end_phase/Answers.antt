@@ -1,6 +1,6 @@
-use Rattle.std.proofs.Common.{◌≡◌, suc, ◌+◌, sym, ap, ◌∙◌, add-one}
+use Rattle.std.proofs.Common.{suc, ◌+◌, sym, ap, ◌∙◌, add-one}
 use Rattle.protocol.specs.Phases.{end_listing, largest_listed, end_gathering, newest_found, result_of}
-use Rattle.protocol.specs.Seats.{activity_in, is_settled}
+use Rattle.protocol.specs.Seats.{activity_in}
 use Rattle.protocol.specs.State.{line_at}
 use Rattle.records.specs.Means.{seat_means}
 use Rattle.relay.specs.Sheets.{lines_mean}

@@ -1,6 +1,6 @@
 use Rattle.std.proofs.Common.{sym, ◌∙◌, arith}
 use Rattle.std.proofs.lemmas.Bool.{le-leb, lt-leb, cond-true, cond-false}
-use Rattle.protocol.specs.Phases.{majority, done_lines, result_of, goes_on}
+use Rattle.protocol.specs.Phases.{majority, goes_on}
 use Rattle.relay.proofs.judging.judge.Goals as goal
 
 pub returns-then-count_done-n : goal.returns-then-count_done-n

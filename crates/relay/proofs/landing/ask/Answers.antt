@@ -1,5 +1,4 @@
 use Rattle.std.proofs.Common.{◌-◌, get_or, Ok, sym, refl, ap, subst}
-use Rattle.std.specs.Option.{option_map}
 use Rattle.std.proofs.lemmas.List.{set-get_or}
 use Rattle.values.specs.Rank.{rank}
 use Rattle.stores.specs.Operations.{get_answer}

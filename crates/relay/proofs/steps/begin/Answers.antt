@@ -1,4 +1,4 @@
-use Rattle.std.proofs.Common.{◌≡◌, sym, refl, ap, ◌∙◌}
+use Rattle.std.proofs.Common.{sym, refl, ap, ◌∙◌}
 use Rattle.protocol.specs.Answers.{ok}
 use Rattle.protocol.specs.Seats.{activity, turned_to}
 use Rattle.protocol.specs.State.{turn}

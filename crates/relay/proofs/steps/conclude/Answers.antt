@@ -1,4 +1,4 @@
-use Rattle.std.proofs.Common.{◌≡◌, sym, refl, ap, ◌∙◌}
+use Rattle.std.proofs.Common.{sym, refl, ap, ◌∙◌}
 use Rattle.values.specs.Rank.{rank}
 use Rattle.protocol.specs.Answers.{on}
 use Rattle.protocol.specs.Seats.{idle, storing, turned_to}

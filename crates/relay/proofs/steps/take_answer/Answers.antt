@@ -1,7 +1,6 @@
-use Rattle.std.proofs.Common.{◌≡◌, ℕ, suc, ◌+◌, ◌*◌, List, set, sym, ap, ◌∙◌, ap₂, arith}
+use Rattle.std.proofs.Common.{ℕ, suc, ◌+◌, ◌*◌, List, set, ap, ◌∙◌, ap₂, arith}
 use Rattle.protocol.specs.Answers.{Answer}
 use Rattle.protocol.specs.Lines as lin
-use Rattle.protocol.specs.Moves.{advance}
 use Rattle.protocol.specs.Phases.{phase_result}
 use Rattle.protocol.specs.Seats.{activity}
 use Rattle.protocol.specs.State.{State, line_at}

@@ -4,7 +4,6 @@ use Rattle.values.specs.Refusals.{numbered}
 use Rattle.banks.specs.Row.{size_of}
 use Rattle.protocol.specs.Law.{Lawful}
 use Rattle.records.specs.Means.{line_means, seat_means}
-use Rattle.relay.specs.Effects.{BeyondAll}
 use Rattle.relay.specs.Opening.{open_check, opened}
 use Rattle.relay.specs.RelayState.{RelayState, relay_state}
 use Rattle.relay.specs.Sheets.{seats_mean, lines_mean}

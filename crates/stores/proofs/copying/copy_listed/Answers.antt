@@ -1,4 +1,4 @@
-use Rattle.std.proofs.Common.{◌≡◌, length, get_or, sym, ap, ◌∙◌, arith}
+use Rattle.std.proofs.Common.{length, get_or, sym, ap, ◌∙◌, arith}
 use Rattle.std.proofs.lemmas.List.{length-map, at_drop_all}
 use Rattle.values.specs.Rank.{version_of}
 use Rattle.stores.specs.Provider.{cell_key, keys, cell}

@@ -1,7 +1,6 @@
-use Rattle.std.proofs.Common.{◌≡◌, ◌+◌, max, map, length, get_or, take, drop, sym, refl, ap, ◌∙◌, arith}
-use Rattle.values.specs.Rank.{rank}
+use Rattle.std.proofs.Common.{◌≡◌, length, refl, ap, arith}
 use Rattle.protocol.specs.Moves.{largest_key}
-use Rattle.records.proofs.Queues.{first, queue, queue_more, queue_end}
+use Rattle.records.proofs.Queues.{queue, queue_more, queue_end}
 use Rattle.records.proofs.key_list.KeyList.largest.Goals as goal
 
 pub loop-i-preserved : goal.loop-i-preserved

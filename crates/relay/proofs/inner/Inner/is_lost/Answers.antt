@@ -1,4 +1,4 @@
-use Rattle.std.proofs.Common.{◌≡◌, false, map, length, sym, ◌∙◌, arith}
+use Rattle.std.proofs.Common.{false, sym, arith}
 use Rattle.std.proofs.lemmas.List.{length-map, get_or-map, get_or_past}
 use Rattle.relay.specs.RelayState.{lost_flags}
 use Rattle.relay.specs.declared.inner.ProviderRecord.{ProviderRecord}

@@ -1,4 +1,4 @@
-use Rattle.std.proofs.Common.{◌≡◌, true, map, length, set, sym, refl, ap, ◌∙◌, arith}
+use Rattle.std.proofs.Common.{true, set, sym, refl, ap, ◌∙◌, arith}
 use Rattle.std.proofs.lemmas.List.{length-map, map-set, set_past}
 use Rattle.relay.specs.RelayState.{lost_flags}
 use Rattle.relay.specs.declared.inner.ProviderRecord.{ProviderRecord}

@@ -1,9 +1,8 @@
-use Rattle.std.proofs.Common.{◌≡◌, ◌+◌, ◌*◌, ◌<◌, ◌≤◌, sym, ap, ◌∙◌, subst, arith}
+use Rattle.std.proofs.Common.{◌*◌, ◌<◌, ◌≤◌, sym, ap, ◌∙◌, subst, arith}
 use Rattle.std.specs.Option.{option_map}
 use Rattle.std.proofs.lemmas.Result.{IfOk-weaker}
 use Rattle.values.specs.Refusals.{refusal_number}
 use Rattle.banks.specs.Row.{size_of}
-use Rattle.relay.specs.Checks.{located}
 use Rattle.relay.specs.RelayState.{line_of}
 use Rattle.relay.proofs.Locating.{admitted_fits, InPlace, located_in, rows_within}
 use Rattle.relay.proofs.relay.Relay.find.Goals as goal

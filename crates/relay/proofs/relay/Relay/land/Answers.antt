@@ -1,4 +1,4 @@
-use Rattle.std.proofs.Common.{◌≡◌, ◌+◌, ◌*◌, ◌≤◌, List, length, sym, refl, ap, ◌∙◌, subst, arith}
+use Rattle.std.proofs.Common.{◌+◌, ◌*◌, ◌≤◌, length, sym, refl, ap, ◌∙◌, subst}
 use Rattle.values.specs.Refusals.{refusal_number}
 use Rattle.banks.specs.Row.{size_of}
 use Rattle.protocol.specs.Answers as ans

@@ -1,4 +1,4 @@
-use Rattle.std.proofs.Common.{◌≡◌, ◌+◌, ◌*◌, ◌<◌, length, get_or, sym, refl, ap, ◌∙◌, subst, arith}
+use Rattle.std.proofs.Common.{◌+◌, ◌*◌, ◌<◌, length, get_or, refl, ap, ◌∙◌, subst, arith}
 use Rattle.values.specs.Refusals.{refusal_number}
 use Rattle.banks.specs.Row.{size_of}
 use Rattle.protocol.specs.Answers as ans

@@ -1,4 +1,4 @@
-use Rattle.std.proofs.Common.{◌≡◌, ◌++◌, map, length, drop, Ok, sym, ap, ◌∙◌, subst, arith}
+use Rattle.std.proofs.Common.{◌≡◌, ◌++◌, map, length, drop, Ok, ap, ◌∙◌, subst, arith}
 use Rattle.values.specs.Rank.{version_of}
 use Rattle.table.specs.Entries.{entry_key}
 use Rattle.table.specs.Tables.{used_entries}

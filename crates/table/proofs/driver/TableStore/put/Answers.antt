@@ -1,7 +1,7 @@
-use Rattle.std.proofs.Common.{◌≡◌, List, map, length, sym, refl, ap, ◌∙◌, arith}
+use Rattle.std.proofs.Common.{List, map, length, sym, refl, ap, ◌∙◌}
 use base.Stored.{Coded-set}
 use Rattle.stores.specs.Provider.{Provider}
-use Rattle.table.specs.Entries.{entry_cell, put_entry}
+use Rattle.table.specs.Entries.{entry_cell}
 use Rattle.table.specs.Tables.{used_entries}
 use Rattle.table.specs.contracts.entry.Entry.{the_row}
 use Rattle.table.specs.declared.entry.Entry.{Entry}

@@ -1,6 +1,6 @@
 ghost use Rattle.std.specs.Prelude.{◌≡◌, ◌≤◌, List, length, Ok};
 ghost use Rattle.std.specs.Option.{option_map};
-ghost use Rattle.std.specs.List.{AllByRecursion as All};
+ghost use Rattle.std.specs.List.{AllByRecursion};
 ghost use Rattle.values.specs.Rank.{rank};
 ghost use Rattle.values.specs.Refusals.{numbered, outcome};
 ghost use Rattle.stores.specs.Provider.{Provider, cell};
@@ -23,7 +23,7 @@ pub trait Bank<V: Kind> {
     // and no larger than its capacity. (A law of the trait would say it, but no type with a lifetime can answer one.)
     fn lawful(&self)
         ensures some { 1 ≤ length (row self.now) }
-        ensures sound { All Sound (row self.now) };
+        ensures sound { AllByRecursion Sound (row self.now) };
 
     // How many providers there are.
     fn size(&self) -> usize

@@ -1,7 +1,7 @@
 // Reading: one record, and walks over the records of a log from the first to the last.
 ghost use Rattle.std.specs.Prelude.{◌≡◌, ◌+◌, ◌-◌, ◌<◌, ◌≤◌, true, length, take, drop, is_some, None};
 ghost use Rattle.values.specs.Rank.{rank};
-ghost use Rattle.stores.specs.Keyed.{find as found-under};
+ghost use Rattle.stores.specs.Keyed.{find as found_under};
 ghost use Rattle.stores.specs.Provider.{cell_key};
 ghost use Rattle.journal.specs.Log.{log, sound, mentions, replay};
 ghost use Rattle.journal.specs.Record.{rank_at, record_key, record_version, is_put, whole};
@@ -83,7 +83,7 @@ fn seen_in(bytes: &[u8], at: usize, next: usize, w: usize) -> Option<Found>
 pub(crate) fn find(bytes: &[u8], w: usize, key: Key) -> Option<Found>
     requires narrow { w ≤ 64 }
     requires whole { sound w (log w bytes.now) ≡ true }
-    ensures seen { found_in w bytes.now (rank key) result ≡ found-under cell_key (rank key) (replay (log w bytes.now)) }
+    ensures seen { found_in w bytes.now (rank key) result ≡ found_under cell_key (rank key) (replay (log w bytes.now)) }
     ensures within { FoundFits w (length bytes.now) result }
 {
     let mut found = None;
@@ -102,7 +102,7 @@ pub(crate) fn find(bytes: &[u8], w: usize, key: Key) -> Option<Found>
 pub(crate) fn is_present(bytes: &[u8], w: usize, key: Key) -> bool
     requires narrow { w ≤ 64 }
     requires whole { sound w (log w bytes.now) ≡ true }
-    ensures { result ≡ is_some (found-under cell_key (rank key) (replay (log w bytes.now))) }
+    ensures { result ≡ is_some (found_under cell_key (rank key) (replay (log w bytes.now))) }
 {
     match find(bytes, w, key) {
         Some(_) => true,

@@ -2,7 +2,7 @@
 ghost use Rattle.std.specs.Prelude.{◌≡◌, ◌+◌, ◌≤◌, length};
 ghost use Rattle.values.specs.Rank.{rank};
 ghost use Rattle.stores.specs.Provider.{cell};
-ghost use Rattle.journal.specs.Record.{six_bytes, field as as-field, encoded};
+ghost use Rattle.journal.specs.Record.{six_bytes, field as as_field, encoded};
 ghost use Rattle.journal.specs.Walk.{overlay};
 
 use crate::forms::form_of;
@@ -19,9 +19,9 @@ fn six_bytes(version: Version) -> [u8; 6]
 
 // Writes a field at `at`, if it stands, and answers where it ends.
 fn write_field(bytes: &mut [u8], at: usize, stands: bool, field: &[u8]) -> usize
-    requires { at + length (as-field stands field.now) ≤ length bytes.old }
-    ensures size { result ≡ at + length (as-field stands field.now) }
-    ensures after { bytes.new ≡ overlay at (as-field stands field.now) bytes.old }
+    requires { at + length (as_field stands field.now) ≤ length bytes.old }
+    ensures size { result ≡ at + length (as_field stands field.now) }
+    ensures after { bytes.new ≡ overlay at (as_field stands field.now) bytes.old }
 {
     if !stands {
         return at;

@@ -1,6 +1,6 @@
 -- Lists with the same elements, by insertion; and ending a write, which touches that write alone.
 use Rattle.std.proofs.Common.{◌≡◌, ℕ, Bool, true, false, cond, ◌&&◌, eqb, ltb, ◌≢◌, List, [], ◌∷◌, ◌++◌, refl, subst, ap₂, arith}
-use Rattle.std.specs.List.{AllByRecursion as All}
+use Rattle.std.specs.List.{AllByRecursion}
 use Rattle.std.specs.List.Sorted.{IsPermutation}
 use Rattle.std.proofs.ByRecursion.{All-weaker}
 use Rattle.std.proofs.lemmas.List.Sorted.{IsPermutation-refl, IsPermutation-cons, IsPermutation-trans, IsPermutation-sym, IsPermutation-to_front}
@@ -67,22 +67,22 @@ end_arranged v c (more h i) = more (end_arranged v c h) (end_insert v c i)
 abbrev Other : Operation → Operation → Type 0
 Other o y = y.write ≡ true → y.version ≢ o.version
 
-insert_all : (P : Operation → Type 0) {o : Operation} {l k : List Operation} → Insert o l k → All P k → P o × All P l
+insert_all : (P : Operation → Type 0) {o : Operation} {l k : List Operation} → Insert o l k → AllByRecursion P k → P o × AllByRecursion P l
 insert_all P here h = h
 insert_all P (there i) h = let z = insert_all P i h.1 in (z.0, (h.0, z.1))
 
-arranged_all : (P : Operation → Type 0) {l k : List Operation} → Arranged l k → All P k → All P l
+arranged_all : (P : Operation → Type 0) {l k : List Operation} → Arranged l k → AllByRecursion P k → AllByRecursion P l
 arranged_all P done h = tt
 arranged_all P (more g i) h = let z = insert_all P i h in (z.0, arranged_all P g z.1)
 
-others_in : {o : Operation} {l k : List Operation} → o.write ≡ true → Insert o l k → EachTwo VersionsRise k → All (Other o) l
+others_in : {o : Operation} {l k : List Operation} → o.write ≡ true → Insert o l k → EachTwo VersionsRise k → AllByRecursion (Other o) l
 others_in t here h = All-weaker _ _ (λ y r w e. omega (arith, r t w)) _ h.0
 others_in t (there i) h = let z = insert_all _ i h.0 in ((λ w e. omega (arith, z.0 w t)), others_in t i h.1)
 
-apart : {o : Operation} {l k : List Operation} → o.write ≡ true → Arranged (o ∷ l) k → EachTwo VersionsRise k → All (Other o) l
+apart : {o : Operation} {l k : List Operation} → o.write ≡ true → Arranged (o ∷ l) k → EachTwo VersionsRise k → AllByRecursion (Other o) l
 apart t (more g i) h = arranged_all _ g (others_in t i h)
 
-end_rest : (o : Operation) (c : ℕ) (l : List Operation) → All (Other o) l → end_writes o.version c l ≡ l
+end_rest : (o : Operation) (c : ℕ) (l : List Operation) → AllByRecursion (Other o) l → end_writes o.version c l ≡ l
 end_rest o c [] h = refl
 end_rest o c (y ∷ l) h = ap₂ (λ e l. record { write = y.write; begun = y.begun; ended = e; version = y.version; value = y.value } ∷ l) (go y.write refl h.0) (end_rest o c l h.1)
   where

@@ -1,6 +1,6 @@
 -- A provider's map: what put and remove do to its cells, its largest key and its keys.
 use Rattle.std.proofs.Common.{◌≡◌, ℕ, suc, ◌<◌, ◌≤◌, max, ◌||◌, eqb, ltb, ◌≢◌, ◌⊎◌, List, [], ◌∷◌, ◌++◌, map, length, Some, None, Option, refl, ap, ◌∙◌, inl, inr, arith}
-use Rattle.std.specs.List.{AllByRecursion as All}
+use Rattle.std.specs.List.{AllByRecursion}
 use Rattle.std.proofs.ByRecursion.{All-weaker}
 use Rattle.std.proofs.lemmas.Bool.{cond_both, eqb-true, eqb-false, ltb-true, ltb-false, or_cases, or_parts}
 use Rattle.stores.specs.Keyed.{find, put, without}
@@ -11,22 +11,22 @@ use Rattle.protocol.proofs.Model.{top, Tag, untag}
 use Rattle.protocol.proofs.Lists.{In, fits_in}
 
 -- what holds of each cell
-pub all_insert : (P : Cell → Type 0) (c : Cell) (m : List Cell) → P c → All P m → All P (put cell_key c m)
+pub all_insert : (P : Cell → Type 0) (c : Cell) (m : List Cell) → P c → AllByRecursion P m → AllByRecursion P (put cell_key c m)
 all_insert P c [] p h = (p, tt)
 all_insert P c (d ∷ m) p h =
     let ih = all_insert P c m p h.1 in
-    cond_both (ltb d.key c.key) _ _ (All P) (λ _. (h.0, ih)) (λ _. (p, cond_both (eqb d.key c.key) _ _ (All P) (λ _. h.1) (λ _. h)))
+    cond_both (ltb d.key c.key) _ _ (AllByRecursion P) (λ _. (h.0, ih)) (λ _. (p, cond_both (eqb d.key c.key) _ _ (AllByRecursion P) (λ _. h.1) (λ _. h)))
 
-pub all_erase : (P : Cell → Type 0) (k : ℕ) (m : List Cell) → All P m → All P (without cell_key k m)
+pub all_erase : (P : Cell → Type 0) (k : ℕ) (m : List Cell) → AllByRecursion P m → AllByRecursion P (without cell_key k m)
 all_erase P k [] h = tt
-all_erase P k (c ∷ m) h = let ih = all_erase P k m h.1 in cond_both (eqb c.key k) _ _ (All P) (λ _. ih) (λ _. (h.0, ih))
+all_erase P k (c ∷ m) h = let ih = all_erase P k m h.1 in cond_both (eqb c.key k) _ _ (AllByRecursion P) (λ _. ih) (λ _. (h.0, ih))
 
 -- what is got has the key that was asked
 abbrev pub Got : (Cell → Type 0) → ℕ → Option Cell → Type 0
 Got P k None = Unit {0}
 Got P k (Some c) = P c × (c.key ≡ k)
 
-pub all_get : (P : Cell → Type 0) (k : ℕ) (m : List Cell) → All P m → Got P k (find cell_key k m)
+pub all_get : (P : Cell → Type 0) (k : ℕ) (m : List Cell) → AllByRecursion P m → Got P k (find cell_key k m)
 all_get P k [] h = tt
 all_get P k (c ∷ m) h = cond_both (eqb c.key k) _ _ (Got P k) (λ t. (h.0, eqb-true c.key k t)) (λ _. all_get P k m h.1)
 
@@ -43,7 +43,7 @@ rising_insert c (d ∷ m) h =
     (λ f. let l = ltb-false d.key c.key f in
     let up : (b : Cell) → d.key < b.key → c.key < b.key = λ b q. omega arith in
     let more = All-weaker (λ (b : Cell). d.key < b.key) (λ b. c.key < b.key) up m h.0 in
-    (cond_both (eqb d.key c.key) _ _ (All (λ b. c.key < b.key)) (λ _. more) (λ f. let n = eqb-false d.key c.key f in (omega arith, more)), cond_both (eqb d.key c.key) _ _ Rising (λ _. h.1) (λ _. h)))
+    (cond_both (eqb d.key c.key) _ _ (AllByRecursion (λ b. c.key < b.key)) (λ _. more) (λ f. let n = eqb-false d.key c.key f in (omega arith, more)), cond_both (eqb d.key c.key) _ _ Rising (λ _. h.1) (λ _. h)))
 
 pub rising_erase : (k : ℕ) (m : List Cell) → Rising m → Rising (without cell_key k m)
 rising_erase k [] h = tt
@@ -83,20 +83,20 @@ in_erase k [] x d h = h
 in_erase k (c ∷ m) x d (inl e) = cond_both (eqb c.key k) _ _ (λ z. In x (map cell_key z)) (λ t. absurd (d (e ∙ eqb-true c.key k t))) (λ _. inl e)
 in_erase k (c ∷ m) x d (inr r) = let ih = in_erase k m x d r in cond_both (eqb c.key k) _ _ (λ z. In x (map cell_key z)) (λ _. ih) (λ _. inr ih)
 
-pub erase_gone : (k : ℕ) (m : List Cell) → All (λ c. c.key ≢ k) (without cell_key k m)
+pub erase_gone : (k : ℕ) (m : List Cell) → AllByRecursion (λ c. c.key ≢ k) (without cell_key k m)
 erase_gone k [] = tt
-erase_gone k (c ∷ m) = let ih = erase_gone k m in cond_both (eqb c.key k) _ _ (All (λ c. c.key ≢ k)) (λ _. ih) (λ d. (eqb-false c.key k d, ih))
+erase_gone k (c ∷ m) = let ih = erase_gone k m in cond_both (eqb c.key k) _ _ (AllByRecursion (λ c. c.key ≢ k)) (λ _. ih) (λ d. (eqb-false c.key k d, ih))
 
 -- the temporary keys but the largest
-pub all_below : (l : List ℕ) → All (λ k. k ≤ largest_key l) l
+pub all_below : (l : List ℕ) → AllByRecursion (λ k. k ≤ largest_key l) l
 all_below [] = tt
 all_below (k ∷ l) = (omega arith, All-weaker (λ j. j ≤ largest_key l) (λ j. j ≤ max k (largest_key l)) (λ j h. omega arith) l (all_below l))
 
-pub but_below : (t : ℕ) (l : List ℕ) → All (λ k. k ≤ t) l → All (λ k. k < t) (keys_but t l)
+pub but_below : (t : ℕ) (l : List ℕ) → AllByRecursion (λ k. k ≤ t) l → AllByRecursion (λ k. k < t) (keys_but t l)
 but_below t [] h = tt
 but_below t (k ∷ l) h =
     let ih = but_below t l h.1 in
-    cond_both (eqb k 0 || eqb k t) _ _ (All (λ k. k < t)) (λ _. ih) (λ f. let n = eqb-false k t (or_parts (eqb k 0) (eqb k t) f).1 in (omega arith, ih))
+    cond_both (eqb k 0 || eqb k t) _ _ (AllByRecursion (λ k. k < t)) (λ _. ih) (λ f. let n = eqb-false k t (or_parts (eqb k 0) (eqb k t) f).1 in (omega arith, ih))
 
 pub in_but : (t : ℕ) (l : List ℕ) (x : ℕ) → x ≢ 0 → In x l → In x (t ∷ keys_but t l)
 in_but t [] x d h = absurd h
@@ -107,18 +107,18 @@ in_but t (k ∷ l) x d (inr r) =
     cond_both (eqb k 0 || eqb k t) _ _ (λ z. In x (t ∷ z)) (λ _. ih) (λ _. elim ih [ inl e ↦ inl e | inr q ↦ inr (inr q) ])
 
 -- a map has at most one key more than its temporary ones
-pub few_keys : (m : List Cell) (l : List ℕ) → Rising m → All (λ c. (c.key ≡ 0) ⊎ In c.key l) m → length m ≤ suc (length l)
+pub few_keys : (m : List Cell) (l : List ℕ) → Rising m → AllByRecursion (λ c. (c.key ≡ 0) ⊎ In c.key l) m → length m ≤ suc (length l)
 few_keys m l r h = omega (arith, length_keys m, fits_in (map cell_key m) (0 ∷ l) (apart m r) (each m h))
   where
     length_keys : (m : List Cell) → length (map cell_key m) ≡ length m
     length_keys [] = refl
     length_keys (c ∷ m) = ap suc (length_keys m)
 
-    each : (m : List Cell) → All (λ c. (c.key ≡ 0) ⊎ In c.key l) m → All (λ k. In k (0 ∷ l)) (map cell_key m)
+    each : (m : List Cell) → AllByRecursion (λ c. (c.key ≡ 0) ⊎ In c.key l) m → AllByRecursion (λ k. In k (0 ∷ l)) (map cell_key m)
     each [] h = tt
     each (c ∷ m) h = (h.0, each m h.1)
 
-    far : (k : ℕ) (m : List Cell) → All (λ c. k < c.key) m → All (λ y. k ≢ y) (map cell_key m)
+    far : (k : ℕ) (m : List Cell) → AllByRecursion (λ c. k < c.key) m → AllByRecursion (λ y. k ≢ y) (map cell_key m)
     far k [] h = tt
     far k (c ∷ m) h = ((λ e. omega (arith, e, h.0)), far k m h.1)
 

@@ -2,7 +2,7 @@
 use Rattle.std.proofs.Common.{◌≡◌, ℕ, zero, suc, ◌+◌, ◌-◌, ◌*◌, ◌/◌, ◌%◌, ◌<◌, ◌≤◌, Bool, true, false, not, ◌&&◌, ltb, leb, List, [], ◌∷◌, ◌++◌, length, get_or, take, sym, refl, ap, subst, subst₂, mod-lt, div-lt_iff_lt-mul, arith}
 use native.Mathlib.Nat.{mod-add-div'}
 use lib.Arith.{digits_lt}
-use Rattle.std.specs.List.{AllByRecursion as All}
+use Rattle.std.specs.List.{AllByRecursion}
 use Rattle.std.specs.List.Sorted.{IsPermutation}
 use Rattle.std.proofs.ByRecursion.{All-get_or, All-from_get_or}
 use Rattle.std.proofs.lemmas.List.{get_or-take, length-take}
@@ -103,7 +103,7 @@ module _ (m n : ℕ) (n0 : 0 < n) (small : m ≤ 65534) where
     free_at : (s i : ℕ) → (lines_of m n C.lines s i).state ≡ lines.free
     free_at s i = cond_both (ltb s m && ltb i n) _ _ (λ (l : Line). l.state ≡ lines.free) (λ t. let z = and_parts (ltb s m) (ltb i n) t in h.free (s * n + i) (digits_lt (ltb-true s m z.0) (ltb-true i n z.1))) (λ _. refl)
 
-    empty_at : (l : List Provider) → All (λ (p : Provider). (p.cells ≡ []) × (m + 2 ≤ p.capacity)) l → (i : ℕ) → (get_or l i no_provider).cells ≡ []
+    empty_at : (l : List Provider) → AllByRecursion (λ (p : Provider). (p.cells ≡ []) × (m + 2 ≤ p.capacity)) l → (i : ℕ) → (get_or l i no_provider).cells ≡ []
     empty_at [] a i = refl
     empty_at (p ∷ l) a zero = a.0.0
     empty_at (p ∷ l) a (suc i) = empty_at l a.1 i
@@ -132,7 +132,7 @@ module _ (m n : ℕ) (n0 : 0 < n) (small : m ≤ 65534) where
     }
 
   -- what a sound state and history say
-  pub bounded : (C : State) (H : History) → Sound C H → All (λ (p : Provider). length p.cells ≤ m + 2) C.row
+  pub bounded : (C : State) (H : History) → Sound C H → AllByRecursion (λ (p : Provider). length p.cells ≤ m + 2) C.row
   bounded C H h =
       let w = h.come in
       let r = register n m n0 small w.st w.trace w.run in
@@ -162,9 +162,9 @@ module _ (m n : ℕ) (n0 : 0 < n) (small : m ≤ 65534) where
           above = r.above;
           in_time = r.in_time;
           shows = r.shows;
-          plain_some = all_before H m (λ s. (seat_at E s).version) w.trace.order _ exact (placed cs as' no_calls first_placed) (subst (All (ShowsBy w.trace.order)) same r.plain_some);
-          plain_new = subst (All (NotOld w.trace.order)) same r.plain_new;
-          plain_none = subst (All (NoneBefore w.trace.order)) same r.plain_none;
+          plain_some = all_before H m (λ s. (seat_at E s).version) w.trace.order _ exact (placed cs as' no_calls first_placed) (subst (AllByRecursion (ShowsBy w.trace.order)) same r.plain_some);
+          plain_new = subst (AllByRecursion (NotOld w.trace.order)) same r.plain_new;
+          plain_none = subst (AllByRecursion (NoneBefore w.trace.order)) same r.plain_none;
           few_keys = bounded E H h;
           roomy = All-from_get_or _ (take (m * n) E.lines) blank_line (λ i l. let b : i < m * n = omega (arith, length-take (m * n) E.lines) in subst (λ (l : Line). holds_refusal l.state ≡ false) (sym (get_or-take (m * n) E.lines i blank_line b)) (line_roomy i b));
         }

@@ -3,7 +3,7 @@
 -- once the line is done neither is its version; what a listing or gathering line that is done has seen is not below f.
 -- A line with a stale request or answer on the way is at its start.
 use Rattle.std.proofs.Common.{◌≡◌, ℕ, ◌<◌, ◌≤◌, true, false, eqb, ltb, leb, ◌≢◌, ◌⊎◌, List, [], ◌∷◌, map, Some, None, Option, sym, refl, ◌∙◌, subst, inl, inr, arith}
-use Rattle.std.specs.List.{AllByRecursion as All}
+use Rattle.std.specs.List.{AllByRecursion}
 use Rattle.std.proofs.ByRecursion.{All-weaker}
 use Rattle.std.proofs.lemmas.Bool.{cond_both, eqb-true, eqb-false, ltb-true, ltb-false, leb-true, eq-eqb, ne_eqb, cond-true, cond-false}
 use Rattle.stores.specs.Keyed.{find, put, without}
@@ -29,7 +29,7 @@ update_other f i j x d = cond-false (eqb i j) x (f j) (ne_eqb i j d)
 
 abbrev pub StoreOk : ℕ → ℕ → ℕ → List Tag → StoreProgress → Type 0
 StoreOk s v t E to_list = Unit {0}
-StoreOk s v t E (to_remove k rest big) = (big ≤ t) × All (λ x. x < big) (k ∷ rest) × Own s (big ∷ (k ∷ rest)) E
+StoreOk s v t E (to_remove k rest big) = (big ≤ t) × AllByRecursion (λ x. x < big) (k ∷ rest) × Own s (big ∷ (k ∷ rest)) E
 StoreOk s v t E (to_put_standing big) = (big ≤ t) × Tail s E
 StoreOk s v t E (to_put_own big) = (big < v) × Tail s E
 StoreOk s v t E (to_remove_largest big) = (big < v) × (v ≤ t)
@@ -124,11 +124,11 @@ module _ (g : ℕ → Option Code) (s : ℕ) where
 
   -- its own request
   module _ (m : List Cell) (E : List Tag) (seats : ℕ) (ok : ProviderOk seats g m E) where
-    clear_ok : (v t : ℕ) (F : List Tag) (rest : List ℕ) (big : ℕ) → big ≤ t → EachTwo (λ a b. a.key ≢ b.key) F → All (λ x. x < big) rest → Own s (big ∷ rest) F → StoreOk s v t F (to_remove_all rest big)
+    clear_ok : (v t : ℕ) (F : List Tag) (rest : List ℕ) (big : ℕ) → big ≤ t → EachTwo (λ a b. a.key ≢ b.key) F → AllByRecursion (λ x. x < big) rest → Own s (big ∷ rest) F → StoreOk s v t F (to_remove_all rest big)
     clear_ok v t F [] big l a h o = (l, own_tail s big F a o)
     clear_ok v t F (k ∷ rest) big l a h o = (l, h, o)
 
-    own_all : (l : List ℕ) (F : List Tag) → All (λ e. In e.key l) F → Own s l F
+    own_all : (l : List ℕ) (F : List Tag) → AllByRecursion (λ e. In e.key l) F → Own s l F
     own_all l [] h = tt
     own_all l (e ∷ F) h = inr (h.0, own_all l F h.1)
 

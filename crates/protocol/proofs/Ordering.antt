@@ -2,7 +2,7 @@
 -- version and a settled read when it finishes; versions do not fall along the order, they rise strictly towards a write, and
 -- none that finished before another began stands after it.
 use Rattle.std.proofs.Common.{◌≡◌, ℕ, suc, ◌<◌, ◌≤◌, max, Bool, true, false, ◌&&◌, eqb, ltb, ◌≢◌, ◌⊎◌, List, [], ◌∷◌, Some, None, Option, sym, refl, ap, ◌∙◌, subst, inl, inr, arith}
-use Rattle.std.specs.List.{AllByRecursion as All}
+use Rattle.std.specs.List.{AllByRecursion}
 use Rattle.std.proofs.ByRecursion.{All-weaker}
 use Rattle.std.proofs.lemmas.Bool.{cond_both, eqb-true, ltb-true, ltb-false, cases_eq, cases_lt, and_parts, false≢true}
 use Rattle.protocol.specs.History.{update, Operation}
@@ -10,12 +10,12 @@ use Rattle.protocol.specs.Phases.{most, next_version}
 use Rattle.protocol.proofs.Model.{Code, top, GatherProgress, gathering, storing, found}
 use Rattle.protocol.proofs.ModelSteps.{ModelState, Step, listed, posts, lands, fetches, begins_write, begins_read, stops, gives, uses_up, finds, reads, reads_none, ends}
 use Rattle.protocol.proofs.Trace.{Trace, insert_ordered, end_write, end_writes, begun_trace, placed, read_plain, ended_trace, tick, trace_step}
-use Rattle.protocol.specs.Law.{Any, EachTwo}
+use Rattle.protocol.specs.Law.{AnyByRecursion, EachTwo}
 use Rattle.protocol.proofs.Lists.{all_and}
 use Rattle.protocol.proofs.ModelLines.{update_same, update_other, GatherOk, ProgressOk, SeatOk}
 use Rattle.protocol.proofs.Invariant.{Invariant, Rank, at1, at3, fresh_new, reach_find, reach_list}
 
-pub any_weaker : {X : Type 0} (P Q : X → Type 0) → ((x : X) → P x → Q x) → (l : List X) → Any P l → Any Q l
+pub any_weaker : {X : Type 0} (P Q : X → Type 0) → ((x : X) → P x → Q x) → (l : List X) → AnyByRecursion P l → AnyByRecursion Q l
 any_weaker P Q f [] h = h
 any_weaker P Q f (x ∷ l) (inl h) = inl (f x h)
 any_weaker P Q f (x ∷ l) (inr h) = inr (any_weaker P Q f l h)
@@ -26,35 +26,35 @@ pub record Before (a b : Operation) : Type 0 where
   pub strict : b.write ≡ true → a.version < b.version
   pub time : b.ended ≢ 0 → a.begun ≤ b.ended
 
-pub ordered_all : (P : Operation → Type 0) (o : Operation) (l : List Operation) → P o → All P l → All P (insert_ordered o l)
+pub ordered_all : (P : Operation → Type 0) (o : Operation) (l : List Operation) → P o → AllByRecursion P l → AllByRecursion P (insert_ordered o l)
 ordered_all P o [] p h = (p, tt)
-ordered_all P o (y ∷ l) p h = cond_both (ltb o.version y.version) _ _ (All P) (λ _. (p, h)) (λ _. (h.0, ordered_all P o l p h.1))
+ordered_all P o (y ∷ l) p h = cond_both (ltb o.version y.version) _ _ (AllByRecursion P) (λ _. (p, h)) (λ _. (h.0, ordered_all P o l p h.1))
 
-pub ordered_any : (P : Operation → Type 0) (o : Operation) (l : List Operation) → Any P l → Any P (insert_ordered o l)
+pub ordered_any : (P : Operation → Type 0) (o : Operation) (l : List Operation) → AnyByRecursion P l → AnyByRecursion P (insert_ordered o l)
 ordered_any P o [] h = absurd h
-ordered_any P o (y ∷ l) h = cond_both (ltb o.version y.version) _ _ (Any P) (λ _. inr h) (λ _. elim h [ inl e ↦ inl e | inr r ↦ inr (ordered_any P o l r) ])
+ordered_any P o (y ∷ l) h = cond_both (ltb o.version y.version) _ _ (AnyByRecursion P) (λ _. inr h) (λ _. elim h [ inl e ↦ inl e | inr r ↦ inr (ordered_any P o l r) ])
 
-pub ordered_new : (P : Operation → Type 0) (o : Operation) (l : List Operation) → P o → Any P (insert_ordered o l)
+pub ordered_new : (P : Operation → Type 0) (o : Operation) (l : List Operation) → P o → AnyByRecursion P (insert_ordered o l)
 ordered_new P o [] h = inl h
-ordered_new P o (y ∷ l) h = cond_both (ltb o.version y.version) _ _ (Any P) (λ _. inl h) (λ _. inr (ordered_new P o l h))
+ordered_new P o (y ∷ l) h = cond_both (ltb o.version y.version) _ _ (AnyByRecursion P) (λ _. inl h) (λ _. inr (ordered_new P o l h))
 
-pub ordered_pairs : (o : Operation) (l : List Operation) → EachTwo (Before) l → All (λ y. y.version ≤ o.version → Before y o) l → All (λ y. o.version < y.version → Before o y) l → EachTwo (Before) (insert_ordered o l)
+pub ordered_pairs : (o : Operation) (l : List Operation) → EachTwo (Before) l → AllByRecursion (λ y. y.version ≤ o.version → Before y o) l → AllByRecursion (λ y. o.version < y.version → Before o y) l → EachTwo (Before) (insert_ordered o l)
 ordered_pairs o [] h a b = (tt, tt)
 ordered_pairs o (y ∷ l) h a b =
     cond_both (ltb o.version y.version) _ _ (EachTwo (Before))
     (λ t. let k = ltb-true o.version y.version t in ((b.0 k, All-weaker _ _ (λ z q. q.0 (omega (arith, q.1.below))) l (all_and _ _ l b.1 h.0)), h))
     (λ f. let k = ltb-false o.version y.version f in (ordered_all (Before y) o l (a.0 k) h.0, ordered_pairs o l h.1 a.1 b.1))
 
-pub end_all : (P Q : Operation → Type 0) (v c : ℕ) (l : List Operation) → ((o : Operation) → P o → Q (end_write v c o)) → All P l → All Q (end_writes v c l)
+pub end_all : (P Q : Operation → Type 0) (v c : ℕ) (l : List Operation) → ((o : Operation) → P o → Q (end_write v c o)) → AllByRecursion P l → AllByRecursion Q (end_writes v c l)
 end_all P Q v c [] f h = tt
 end_all P Q v c (o ∷ l) f h = (f o h.0, end_all P Q v c l f h.1)
 
-pub end_any : (P Q : Operation → Type 0) (v c : ℕ) (l : List Operation) → ((o : Operation) → P o → Q (end_write v c o)) → Any P l → Any Q (end_writes v c l)
+pub end_any : (P Q : Operation → Type 0) (v c : ℕ) (l : List Operation) → ((o : Operation) → P o → Q (end_write v c o)) → AnyByRecursion P l → AnyByRecursion Q (end_writes v c l)
 end_any P Q v c [] f h = h
 end_any P Q v c (o ∷ l) f (inl h) = inl (f o h)
 end_any P Q v c (o ∷ l) f (inr h) = inr (end_any P Q v c l f h)
 
-pub end_pairs : (v c : ℕ) (l : List Operation) → All (λ o. o.begun ≤ c) l → EachTwo (Before) l → EachTwo (Before) (end_writes v c l)
+pub end_pairs : (v c : ℕ) (l : List Operation) → AllByRecursion (λ o. o.begun ≤ c) l → EachTwo (Before) l → EachTwo (Before) (end_writes v c l)
 end_pairs v c [] b h = tt
 end_pairs v c (o ∷ l) b h = (end_all (Before o) (Before (end_write v c o)) v c l (λ y q. one o y b.0 q) h.0, end_pairs v c l b.1 h.1)
   where
@@ -72,24 +72,24 @@ abbrev pub Late : ℕ → ℕ → Operation → Type 0
 Late since low o = o.ended ≢ 0 → o.ended < since → o.version ≤ low
 
 abbrev pub PlainOk : List Operation → Operation → Type 0
-PlainOk l r = (((r.version ≡ 0) × (r.value ≡ None)) ⊎ ((x : Code) × (r.value ≡ Some x) × Any (Written r.version x r.ended) l)) × All (Late r.begun r.version) l
+PlainOk l r = (((r.version ≡ 0) × (r.value ≡ None)) ⊎ ((x : Code) × (r.value ≡ Some x) × AnyByRecursion (Written r.version x r.ended) l)) × AllByRecursion (Late r.begun r.version) l
 
 -- what holds of the order and the plain reads beside the state
 pub record TraceInv (g : ℕ → Option Code) (highest : ℕ) (low : ℕ → ℕ) (L : Trace) : Type 0 where
   pub pairs : EachTwo (Before) L.order
-  pub times : All (λ o. (o.begun ≤ L.clock) × (o.ended ≤ L.clock)) L.order
+  pub times : AllByRecursion (λ o. (o.begun ≤ L.clock) × (o.ended ≤ L.clock)) L.order
   pub sinces : (s : ℕ) → L.since s ≤ L.clock
-  pub oks : All (OperationOk g) L.order
-  pub there : (v : ℕ) (x : Code) → g v ≡ Some x → Any (Written v x L.clock) L.order
-  pub highests : All (λ o. o.ended ≢ 0 → o.version ≤ highest) L.order
-  pub lows : (s : ℕ) → All (Late (L.since s) (low s)) L.order
-  pub begins : All (λ r. r.begun ≤ L.clock) L.plain
-  pub plains : All (PlainOk L.order) L.plain
+  pub oks : AllByRecursion (OperationOk g) L.order
+  pub there : (v : ℕ) (x : Code) → g v ≡ Some x → AnyByRecursion (Written v x L.clock) L.order
+  pub highests : AllByRecursion (λ o. o.ended ≢ 0 → o.version ≤ highest) L.order
+  pub lows : (s : ℕ) → AllByRecursion (Late (L.since s) (low s)) L.order
+  pub begins : AllByRecursion (λ r. r.begun ≤ L.clock) L.plain
+  pub plains : AllByRecursion (PlainOk L.order) L.plain
 
 module _ (g : ℕ → Option Code) (highest : ℕ) (low : ℕ → ℕ) (L : Trace) (h : TraceInv g highest low L) where
   -- the seat's low is written again
   trace_keep : (s : ℕ) → TraceInv g highest (update low s (low s)) L
-  trace_keep s = record { pairs = h.pairs; times = h.times; sinces = h.sinces; oks = h.oks; there = h.there; highests = h.highests; lows = at1 (λ o l. All (Late (L.since o) l) L.order) low s (low s) (h.lows s) (λ o _. h.lows o); begins = h.begins; plains = h.plains }
+  trace_keep s = record { pairs = h.pairs; times = h.times; sinces = h.sinces; oks = h.oks; there = h.there; highests = h.highests; lows = at1 (λ o l. AllByRecursion (Late (L.since o) l) L.order) low s (low s) (h.lows s) (λ o _. h.lows o); begins = h.begins; plains = h.plains }
 
   trace_begin : (s : ℕ) → TraceInv g highest (update low s highest) (begun_trace s L)
   trace_begin s = record {
@@ -99,7 +99,7 @@ module _ (g : ℕ → Option Code) (highest : ℕ) (low : ℕ → ℕ) (L : Trac
     oks = h.oks;
     there = h.there;
     highests = h.highests;
-    lows = at3 (λ o t l _. All (Late t l) L.order) L.since low low s L.clock highest highest (All-weaker _ _ (λ o q n _. q n) L.order h.highests) (λ o _. h.lows o);
+    lows = at3 (λ o t l _. AllByRecursion (Late t l) L.order) L.since low low s L.clock highest highest (All-weaker _ _ (λ o q n _. q n) L.order h.highests) (λ o _. h.lows o);
     begins = h.begins;
     plains = h.plains;
   }
@@ -119,7 +119,7 @@ module _ (g : ℕ → Option Code) (highest : ℕ) (low : ℕ → ℕ) (L : Trac
 
   -- an operation takes its place: a write that is not ended, or a read that ends now
   trace_insert : (k : ℕ → Option Code) (o : Operation) → ((v : ℕ) (x : Code) → g v ≡ Some x → k v ≡ Some x) → OperationOk k o → (o.ended ≡ 0) ⊎ (o.ended ≡ L.clock) → o.begun ≤ L.clock →
-      All (λ y. y.version ≤ o.version → Before y o) L.order → All (λ y. o.version < y.version → Before o y) L.order → (o.ended ≢ 0 → o.version ≤ highest) →
+      AllByRecursion (λ y. y.version ≤ o.version → Before y o) L.order → AllByRecursion (λ y. o.version < y.version → Before o y) L.order → (o.ended ≢ 0 → o.version ≤ highest) →
       ((v : ℕ) (x : Code) → k v ≡ Some x → (g v ≡ Some x) ⊎ Written v x L.clock o) → TraceInv k highest low (placed o L)
   trace_insert k o more ok time begun before after done new = record {
     pairs = ordered_pairs o L.order h.pairs before after;

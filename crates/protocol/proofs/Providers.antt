@@ -3,7 +3,7 @@
 -- standing key or its own, and a remove of a key below the largest. Such requests keep what holds, and the largest key
 -- never falls: the heart of the protocol.
 use Rattle.std.proofs.Common.{◌≡◌, ℕ, ◌+◌, ◌<◌, ◌≤◌, eqb, ◌≢◌, ◌⊎◌, List, [], ◌∷◌, ◌++◌, map, length, Some, Option, refl, inl, inr, arith}
-use Rattle.std.specs.List.{AllByRecursion as All}
+use Rattle.std.specs.List.{AllByRecursion}
 use Rattle.std.proofs.ByRecursion.{All-push, All-weaker}
 use Rattle.std.proofs.lemmas.Bool.{cond_both, eqb-true, eqb-false, cases_eq}
 use Rattle.stores.specs.Keyed.{put, without}
@@ -16,12 +16,12 @@ use Rattle.protocol.proofs.Cells.{Rising, all_insert, all_erase, rising_insert, 
 
 pub record ProviderOk (seats : ℕ) (g : ℕ → Option Code) (m : List Cell) (E : List Tag) : Type 0 where
   pub rising : Rising m
-  pub paired : All (λ c. ((c.key ≡ 0) ⊎ (c.key ≡ c.pair.version)) × (g c.pair.version ≡ Some c.pair.value)) m
-  pub keyed : All (λ c. (c.key ≡ 0) ⊎ In c.key (tagged E)) m
-  pub held : All (λ e. (e.key ≢ 0) × In e.key (map cell_key m)) E
+  pub paired : AllByRecursion (λ c. ((c.key ≡ 0) ⊎ (c.key ≡ c.pair.version)) × (g c.pair.version ≡ Some c.pair.value)) m
+  pub keyed : AllByRecursion (λ c. (c.key ≡ 0) ⊎ In c.key (tagged E)) m
+  pub held : AllByRecursion (λ e. (e.key ≢ 0) × In e.key (map cell_key m)) E
   pub apart : Apart E
   pub spread : Spread E
-  pub known : All (λ e. e.who < seats) E
+  pub known : AllByRecursion (λ e. e.who < seats) E
 
 abbrev pub RequestOk : (ℕ → Option Code) → ℕ → ℕ → List Tag → Request → Type 0
 RequestOk g s t E list_keys = Unit {0}

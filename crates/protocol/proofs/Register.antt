@@ -1,10 +1,10 @@
 -- Every run of the model is a correct register.
 use Rattle.std.proofs.Common.{◌≡◌, ℕ, zero, suc, ◌+◌, ◌<◌, ◌≤◌, Bool, true, false, cond, ◌⊎◌, List, [], ◌∷◌, length, None, Option, sym, refl, ap, ◌∙◌, inl, inr, arith}
-use Rattle.std.specs.List.{AllByRecursion as All}
+use Rattle.std.specs.List.{AllByRecursion}
 use Rattle.std.proofs.ByRecursion.{All-weaker}
 use Rattle.std.proofs.lemmas.Bool.{both_ways}
 use Rattle.protocol.specs.History.{Operation}
-use Rattle.protocol.specs.Law.{EachTwo, Any, VersionsRise, InTime, ShowLatest, NotOld, NoneBefore}
+use Rattle.protocol.specs.Law.{EachTwo, AnyByRecursion, VersionsRise, InTime, ShowLatest, NotOld, NoneBefore}
 use Rattle.protocol.specs.Phases.{count}
 use Rattle.protocol.proofs.Lists.{all_and, none_some}
 use Rattle.protocol.proofs.Model.{Code, idle, free}
@@ -28,44 +28,44 @@ pub data Run (n seats : ℕ) : ModelState → Trace → Type 0 where
 
 -- a plain read shows nothing, or a write that began when it finished or before
 abbrev pub ShowsBy : List Operation → Operation → Type 0
-ShowsBy order r = ((r.version ≡ 0) × (r.value ≡ None)) ⊎ Any (λ w. (w.write ≡ true) × (w.version ≡ r.version) × (w.value ≡ r.value) × (w.begun ≤ r.ended)) order
+ShowsBy order r = ((r.version ≡ 0) × (r.value ≡ None)) ⊎ AnyByRecursion (λ w. (w.write ≡ true) × (w.version ≡ r.version) × (w.value ≡ r.value) × (w.begun ≤ r.ended)) order
 
 pub record Register (seats : ℕ) (st : ModelState) (L : Trace) : Type 0 where
   pub rising : EachTwo VersionsRise L.order
-  pub above : All (λ w. w.write ≡ true → 0 < w.version) L.order
+  pub above : AllByRecursion (λ w. w.write ≡ true → 0 < w.version) L.order
   pub in_time : EachTwo InTime L.order
   pub shows : ShowLatest 0 None L.order
-  pub plain_some : All (ShowsBy L.order) L.plain
-  pub plain_new : All (NotOld L.order) L.plain
-  pub plain_none : All (NoneBefore L.order) L.plain
+  pub plain_some : AllByRecursion (ShowsBy L.order) L.plain
+  pub plain_new : AllByRecursion (NotOld L.order) L.plain
+  pub plain_none : AllByRecursion (NoneBefore L.order) L.plain
   pub few_keys : (i : ℕ) → length (st.provider i).cells ≤ seats + 2
 
 -- a write of o's version and value is in l
 abbrev Source : List Operation → Operation → Type 0
-Source l o = Any (λ w. (w.write ≡ true) × (w.version ≡ o.version) × (w.value ≡ o.value)) l
+Source l o = AnyByRecursion (λ w. (w.write ≡ true) × (w.version ≡ o.version) × (w.value ≡ o.value)) l
 
 abbrev Legal : ℕ → Option Code → List Operation → Operation → Type 0
 Legal v x l o = ((o.version ≡ v) × (o.value ≡ x)) ⊎ Source l o
 
-none_later : (o : Operation) (l : List Operation) → All (Before o) l → Source l o → ⊥
+none_later : (o : Operation) (l : List Operation) → AllByRecursion (Before o) l → Source l o → ⊥
 none_later o [] p h = h
 none_later o (w ∷ l) p (inl z) = omega (arith, p.0.strict z.0, z.1)
 none_later o (w ∷ l) p (inr z) = none_later o l p.1 z
 
-shows : (v : ℕ) (x : Option Code) (l : List Operation) → EachTwo Before l → All (λ o. o.write ≡ true → v < o.version) l → All (Legal v x l) l → ShowLatest v x l
+shows : (v : ℕ) (x : Option Code) (l : List Operation) → EachTwo Before l → AllByRecursion (λ o. o.write ≡ true → v < o.version) l → AllByRecursion (Legal v x l) l → ShowLatest v x l
 shows v x [] p above h = tt
 shows v x (o ∷ l) p above h = go (shows o.version o.value l p.1) (shows v x l p.1) o.write refl
   where
-    after : o.write ≡ true → All (Legal o.version o.value l) l
+    after : o.write ≡ true → AllByRecursion (Legal o.version o.value l) l
     after t = All-weaker _ _ (λ y q. elim q.1 [ inl z ↦ absurd (omega (arith, above.0 t, q.0.below, z.0)) | inr (inl z) ↦ inl (sym z.1, sym z.2) | inr (inr z) ↦ inr z ]) l (all_and _ _ l p.0 h.1)
 
-    later : o.write ≡ false → All (Legal v x l) l
+    later : o.write ≡ false → AllByRecursion (Legal v x l) l
     later f = All-weaker _ _ (λ y q. elim q [ inl z ↦ inl z | inr (inl z) ↦ absurd (both_ways o.write f z.0) | inr (inr z) ↦ inr z ]) l h.1
 
     here : o.write ≡ false → (o.version ≡ v) × (o.value ≡ x)
     here f = elim h.0 [ inl z ↦ z | inr (inl z) ↦ absurd (both_ways o.write f z.0) | inr (inr z) ↦ absurd (none_later o l p.0 z) ]
 
-    go : (All (λ y. y.write ≡ true → o.version < y.version) l → All (Legal o.version o.value l) l → ShowLatest o.version o.value l) → (All (λ y. y.write ≡ true → v < y.version) l → All (Legal v x l) l → ShowLatest v x l) →
+    go : (AllByRecursion (λ y. y.write ≡ true → o.version < y.version) l → AllByRecursion (Legal o.version o.value l) l → ShowLatest o.version o.value l) → (AllByRecursion (λ y. y.write ≡ true → v < y.version) l → AllByRecursion (Legal v x l) l → ShowLatest v x l) →
         (b : Bool) → o.write ≡ b → cond b (ShowLatest o.version o.value l) ((o.version ≡ v) × (o.value ≡ x) × ShowLatest v x l)
     go rest same true t = rest (All-weaker _ _ (λ y q. q.strict) l p.0) (after t)
     go rest same false f = ((here f).0, (here f).1, same above.1 (later f))
@@ -104,7 +104,7 @@ register n seats n0 small st L r =
     let h = both n seats n0 small r in
     let i = h.0 in
     let j = h.1 in
-    let positive : All (λ w. w.write ≡ true → 0 < w.version) L.order = All-weaker _ _ (λ o q t. elim q [ inl z ↦ absurd (both_ways o.write z.2 t) | inr z ↦ omega (arith, (i.fresh o.version z.0 z.2).0) ]) L.order j.oks in
+    let positive : AllByRecursion (λ w. w.write ≡ true → 0 < w.version) L.order = All-weaker _ _ (λ o q t. elim q [ inl z ↦ absurd (both_ways o.write z.2 t) | inr z ↦ omega (arith, (i.fresh o.version z.0 z.2).0) ]) L.order j.oks in
     record {
       rising = pairs_each Before VersionsRise (λ a b q _ t. q.strict t) L.order j.pairs;
       above = positive;

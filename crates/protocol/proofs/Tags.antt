@@ -1,7 +1,7 @@
 -- The bound on a provider's keys. Beside the cells the model keeps a tag for each temporary key: which seat put it last,
 -- ordered by the last put. The seats of all tags but the first differ, so there is at most one more than there are seats.
 use Rattle.std.proofs.Common.{◌≡◌, ℕ, suc, ◌<◌, ◌≤◌, false, eqb, ◌≢◌, ◌⊎◌, List, [], ◌∷◌, ◌++◌, length, sym, refl, ap, ◌∙◌, inl, inr, arith}
-use Rattle.std.specs.List.{AllByRecursion as All}
+use Rattle.std.specs.List.{AllByRecursion}
 use Rattle.std.proofs.ByRecursion.{All-push, All-weaker}
 use Rattle.std.proofs.lemmas.Bool.{cond_both, eqb-false}
 use Rattle.protocol.specs.Law.{EachTwo}
@@ -10,7 +10,7 @@ use Rattle.protocol.proofs.Lists.{In, pairs_push, fits_in, upto, in_upto, length
 
 -- none of the tags is the seat's
 abbrev pub Others : ℕ → List Tag → Type 0
-Others s E = All (λ e. e.who ≢ s) E
+Others s E = AllByRecursion (λ e. e.who ≢ s) E
 
 -- none but the first
 abbrev pub Tail : ℕ → List Tag → Type 0
@@ -30,17 +30,17 @@ Spread (e ∷ E) = EachTwo (λ a b. a.who ≢ b.who) E
 abbrev pub Apart : List Tag → Type 0
 Apart E = EachTwo (λ a b. a.key ≢ b.key) E
 
-pub untag_all : (P : Tag → Type 0) (k : ℕ) (E : List Tag) → All P E → All P (untag k E)
+pub untag_all : (P : Tag → Type 0) (k : ℕ) (E : List Tag) → AllByRecursion P E → AllByRecursion P (untag k E)
 untag_all P k [] h = tt
-untag_all P k (e ∷ E) h = let ih = untag_all P k E h.1 in cond_both (eqb e.key k) (untag k E) (e ∷ untag k E) (All P) (λ _. ih) (λ _. (h.0, ih))
+untag_all P k (e ∷ E) h = let ih = untag_all P k E h.1 in cond_both (eqb e.key k) (untag k E) (e ∷ untag k E) (AllByRecursion P) (λ _. ih) (λ _. (h.0, ih))
 
 pub untag_pairs : (R : Tag → Tag → Type 0) (k : ℕ) (E : List Tag) → EachTwo R E → EachTwo R (untag k E)
 untag_pairs R k [] h = tt
 untag_pairs R k (e ∷ E) h = let ih = untag_pairs R k E h.1 in cond_both (eqb e.key k) (untag k E) (e ∷ untag k E) (EachTwo R) (λ _. ih) (λ _. (untag_all (R e) k E h.0, ih))
 
-pub untag_gone : (k : ℕ) (E : List Tag) → All (λ e. e.key ≢ k) (untag k E)
+pub untag_gone : (k : ℕ) (E : List Tag) → AllByRecursion (λ e. e.key ≢ k) (untag k E)
 untag_gone k [] = tt
-untag_gone k (e ∷ E) = let ih = untag_gone k E in cond_both (eqb e.key k) (untag k E) (e ∷ untag k E) (All (λ e. e.key ≢ k)) (λ _. ih) (λ d. (eqb-false e.key k d, ih))
+untag_gone k (e ∷ E) = let ih = untag_gone k E in cond_both (eqb e.key k) (untag k E) (e ∷ untag k E) (AllByRecursion (λ e. e.key ≢ k)) (λ _. ih) (λ d. (eqb-false e.key k d, ih))
 
 others_own : (s : ℕ) (l : List ℕ) (E : List Tag) → Others s E → Own s l E
 others_own s l [] h = tt
@@ -85,7 +85,7 @@ own_tail s b [] a h = tt
 own_tail s b (e ∷ E) a (inl h) = h.1
 own_tail s b (e ∷ E) a (inr (inl x, h)) = go E a.0 h
   where
-    go : (E : List Tag) → All (λ y. e.key ≢ y.key) E → Own s (b ∷ []) E → Others s E
+    go : (E : List Tag) → AllByRecursion (λ y. e.key ≢ y.key) E → Own s (b ∷ []) E → Others s E
     go [] a h = tt
     go (y ∷ E) a (inl h) = h
     go (y ∷ E) a (inr (inl z, h)) = absurd (a.0 (x ∙ sym z))
@@ -117,7 +117,7 @@ length_whos : (E : List Tag) → length (whos E) ≡ length E
 length_whos [] = refl
 length_whos (e ∷ E) = ap suc (length_whos E)
 
-whos_all : (P : ℕ → Type 0) (E : List Tag) → All (λ e. P e.who) E → All P (whos E)
+whos_all : (P : ℕ → Type 0) (E : List Tag) → AllByRecursion (λ e. P e.who) E → AllByRecursion P (whos E)
 whos_all P [] h = tt
 whos_all P (e ∷ E) h = (h.0, whos_all P E h.1)
 
@@ -125,9 +125,9 @@ whos_pairs : (E : List Tag) → EachTwo (λ a b. a.who ≢ b.who) E → EachTwo 
 whos_pairs [] h = tt
 whos_pairs (e ∷ E) h = (whos_all (λ w. e.who ≢ w) E h.0, whos_pairs E h.1)
 
-pub few_tags : (m : ℕ) (E : List Tag) → All (λ e. e.who < m) E → Spread E → length E ≤ suc m
+pub few_tags : (m : ℕ) (E : List Tag) → AllByRecursion (λ e. e.who < m) E → Spread E → length E ≤ suc m
 few_tags m [] a h = omega arith
 few_tags m (e ∷ E) a h =
-    let sub : All (λ x. In x (upto m)) (whos E) = whos_all _ E (All-weaker (λ e. e.who < m) (λ e. In e.who (upto m)) (λ x q. in_upto x.who m q) E a.1) in
+    let sub : AllByRecursion (λ x. In x (upto m)) (whos E) = whos_all _ E (All-weaker (λ e. e.who < m) (λ e. In e.who (upto m)) (λ x q. in_upto x.who m q) E a.1) in
     let r = fits_in (whos E) (upto m) (whos_pairs E h) sub in
     omega (arith, length_whos E, length_upto m)

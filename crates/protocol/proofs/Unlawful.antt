@@ -1,35 +1,35 @@
 -- In a lawful order a read shows no write that is older than one that finished before the read began.
 use Rattle.std.proofs.Common.{◌≡◌, ℕ, ◌<◌, ◌≤◌, Bool, true, false, cond, List, [], ◌∷◌, Option, sym, refl, subst, inl, inr, arith}
-use Rattle.std.specs.List.{AllByRecursion as All}
+use Rattle.std.specs.List.{AllByRecursion}
 use Rattle.std.proofs.ByRecursion.{All-weaker, all_shuffled}
 use Rattle.std.proofs.lemmas.List.Sorted.{IsPermutation-sym}
 use Rattle.std.proofs.lemmas.Bool.{both_ways}
 use Rattle.protocol.specs.Examples.{old_calls, old_answers, Unlawful}
 use Rattle.protocol.specs.History.{Operation}
-use Rattle.protocol.specs.Law.{EachTwo, Any, EndedBefore, VersionsRise, InTime, ShowLatest}
+use Rattle.protocol.specs.Law.{EachTwo, AnyByRecursion, EndedBefore, VersionsRise, InTime, ShowLatest}
 use Rattle.protocol.proofs.Model.{Code}
 
 -- an element of a list
 abbrev Among : List Operation → Operation → Type 0
-Among l o = Any (λ y. y ≡ o) l
+Among l o = AnyByRecursion (λ y. y ≡ o) l
 
-members : (l : List Operation) → All (Among l) l
+members : (l : List Operation) → AllByRecursion (Among l) l
 members [] = tt
 members (o ∷ l) = (inl refl, All-weaker _ _ (λ y h. inr h) l (members l))
 
-pick : (P : Operation → Type 0) (l : List Operation) (o : Operation) → All P l → Among l o → P o
+pick : (P : Operation → Type 0) (l : List Operation) (o : Operation) → AllByRecursion P l → Among l o → P o
 pick P [] o h a = absurd a
 pick P (y ∷ l) o h (inl e) = subst P e h.0
 pick P (y ∷ l) o h (inr a) = pick P l o h.1 a
 
 -- after a write of version v, reads show v or more
-reads_above : (v : ℕ) (x : Option Code) (l : List Operation) → ShowLatest v x l → All (λ o. o.write ≡ true → v < o.version) l → EachTwo VersionsRise l → All (λ o. o.write ≡ false → v ≤ o.version) l
+reads_above : (v : ℕ) (x : Option Code) (l : List Operation) → ShowLatest v x l → AllByRecursion (λ o. o.write ≡ true → v < o.version) l → EachTwo VersionsRise l → AllByRecursion (λ o. o.write ≡ false → v ≤ o.version) l
 reads_above v x [] s a r = tt
 reads_above v x (o ∷ l) s a r = go o.write refl s (λ s b. reads_above o.version o.value l s b r.1) (λ s. reads_above v x l s a.1 r.1)
   where
     go : (b : Bool) → o.write ≡ b → cond b (ShowLatest o.version o.value l) ((o.version ≡ v) × (o.value ≡ x) × ShowLatest v x l) →
-        (ShowLatest o.version o.value l → All (λ y. y.write ≡ true → o.version < y.version) l → All (λ y. y.write ≡ false → o.version ≤ y.version) l) →
-        (ShowLatest v x l → All (λ y. y.write ≡ false → v ≤ y.version) l) → All (λ y. y.write ≡ false → v ≤ y.version) (o ∷ l)
+        (ShowLatest o.version o.value l → AllByRecursion (λ y. y.write ≡ true → o.version < y.version) l → AllByRecursion (λ y. y.write ≡ false → o.version ≤ y.version) l) →
+        (ShowLatest v x l → AllByRecursion (λ y. y.write ≡ false → v ≤ y.version) l) → AllByRecursion (λ y. y.write ≡ false → v ≤ y.version) (o ∷ l)
     go true e s up same = ((λ f. absurd (both_ways o.write f e)), All-weaker _ _ (λ y h f. omega (arith, h f, a.0 e)) l (up s (All-weaker _ _ (λ y h t. h e t) l r.0)))
     go false e s up same = ((λ _. omega (arith, s.0)), same s.2)
 

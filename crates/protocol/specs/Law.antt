@@ -1,5 +1,5 @@
 use Rattle.std.specs.Prelude.{◌≡◌, ℕ, ◌+◌, ◌*◌, ◌<◌, ◌≤◌, Bool, true, false, cond, ◌≢◌, ◌⊎◌, List, [], ◌∷◌, ◌++◌, length, take, None, Option, slice_index_or}
-use Rattle.std.specs.List.{AllByRecursion as All}
+use Rattle.std.specs.List.{AllByRecursion}
 use Rattle.std.specs.List.Sorted.{IsPermutation}
 use Rattle.stores.specs.Provider.{Provider}
 use Rattle.protocol.specs.Answers.{Call, Answer}
@@ -15,12 +15,12 @@ use Rattle.protocol.specs.declared.phase.Phase.TheVariants.{Idle}
 -- R holds of each two elements, the earlier first
 abbrev pub EachTwo : {X : Type 0} → (X → X → Type 0) → List X → Type 0
 EachTwo R [] = Unit {0}
-EachTwo R (x ∷ l) = All (R x) l × EachTwo R l
+EachTwo R (x ∷ l) = AllByRecursion (R x) l × EachTwo R l
 
 -- P holds of some element
-abbrev pub Any : {X : Type 0} → (X → Type 0) → List X → Type 0
-Any P [] = ⊥
-Any P (x ∷ l) = P x ⊎ Any P l
+abbrev pub AnyByRecursion : {X : Type 0} → (X → Type 0) → List X → Type 0
+AnyByRecursion P [] = ⊥
+AnyByRecursion P (x ∷ l) = P x ⊎ AnyByRecursion P l
 
 -- a finished before place t
 abbrev pub EndedBefore : ℕ → Operation → Type 0
@@ -41,15 +41,15 @@ ShowLatest v x (o ∷ l) = cond o.write (ShowLatest o.version o.value l) ((o.ver
 
 -- A plain read shows nothing, or a write that began before the read finished.
 abbrev pub ShowsSome : List Operation → Operation → Type 0
-ShowsSome order r = ((r.version ≡ 0) × (r.value ≡ None)) ⊎ Any (λ w. (w.write ≡ true) × (w.version ≡ r.version) × (w.value ≡ r.value) × (w.begun < r.ended)) order
+ShowsSome order r = ((r.version ≡ 0) × (r.value ≡ None)) ⊎ AnyByRecursion (λ w. (w.write ≡ true) × (w.version ≡ r.version) × (w.value ≡ r.value) × (w.begun < r.ended)) order
 
 -- No write that finished before the plain read began stands after the one that it shows: none has a larger version.
 abbrev pub NotOld : List Operation → Operation → Type 0
-NotOld order r = All (λ w. w.write ≡ true → EndedBefore r.begun w → w.version ≤ r.version) order
+NotOld order r = AllByRecursion (λ w. w.write ≡ true → EndedBefore r.begun w → w.version ≤ r.version) order
 
 -- A plain read shows nothing only if no write had finished before it began.
 abbrev pub NoneBefore : List Operation → Operation → Type 0
-NoneBefore order r = r.version ≡ 0 → All (λ w. w.write ≡ true → EndedBefore r.begun w → ⊥) order
+NoneBefore order r = r.version ≡ 0 → AllByRecursion (λ w. w.write ≡ true → EndedBefore r.begun w → ⊥) order
 
 -- a line holds a refusal: a put found no room
 abbrev pub is_refusal : Reply → Bool
@@ -78,21 +78,21 @@ pub record Lawful (m n : ℕ) (calls : List Call) (answers : List Answer) (end :
   pub exactly : IsPermutation (standing m n calls answers end) order
   -- writes stand in it by strictly rising version, and every version is above (0, 0);
   pub rising : EachTwo VersionsRise order
-  pub above : All (λ w. w.write ≡ true → 0 < w.version) order
+  pub above : AllByRecursion (λ w. w.write ≡ true → 0 < w.version) order
   -- an operation that finished before another began stands before it;
   pub in_time : EachTwo InTime order
   -- each read in it shows the latest write that stands before it, or nothing if there is none;
   pub shows : ShowLatest 0 None order
   -- a plain read shows a write that began before the read finished, or nothing,
-  pub plain_some : All (ShowsSome order) (plain_reads calls answers)
+  pub plain_some : AllByRecursion (ShowsSome order) (plain_reads calls answers)
   -- no write that finished before the plain read began stands after the one shown,
-  pub plain_new : All (NotOld order) (plain_reads calls answers)
+  pub plain_new : AllByRecursion (NotOld order) (plain_reads calls answers)
   -- and it shows nothing only if no write had finished before it began;
-  pub plain_none : All (NoneBefore order) (plain_reads calls answers)
+  pub plain_none : AllByRecursion (NoneBefore order) (plain_reads calls answers)
   -- each provider holds at most m + 2 keys,
-  pub few_keys : All (λ (p : Provider). length p.cells ≤ m + 2) end.row
+  pub few_keys : AllByRecursion (λ (p : Provider). length p.cells ≤ m + 2) end.row
   -- and no line holds the answer that a put found no room.
-  pub roomy : All (λ (l : Line). holds_refusal l.state ≡ false) (take (m * n) end.lines)
+  pub roomy : AllByRecursion (λ (l : Line). holds_refusal l.state ≡ false) (take (m * n) end.lines)
 
 -- the answers to a list of calls, and the state that the calls lead to
 abbrev pub answers : ℕ → ℕ → State → List Call → List Answer
@@ -109,7 +109,7 @@ pub record Opened (m n : ℕ) (C : State) : Type 0 where
   pub some_provider : 0 < n
   pub few_seats : m ≤ 65534
   pub row : length C.row ≡ n
-  pub empty : All (λ (p : Provider). (p.cells ≡ []) × (m + 2 ≤ p.capacity)) C.row
+  pub empty : AllByRecursion (λ (p : Provider). (p.cells ≡ []) × (m + 2 ≤ p.capacity)) C.row
   pub flags : n ≤ length C.lost
   pub seats : m ≤ length C.seats
   pub lines : m * n ≤ length C.lines

@@ -1,5 +1,5 @@
 -- A relay's step, from the line or the refusal that was found.
-use Rattle.std.proofs.Common.{◌≡◌, ℕ, ◌+◌, ◌-◌, ◌*◌, Bool, true, false, cond, List, length, set, is_ok as isOk, Ok, Err, Result, sym, refl, ap, ◌∙◌, ap₂, arith}
+use Rattle.std.proofs.Common.{◌≡◌, ℕ, ◌+◌, ◌-◌, ◌*◌, Bool, true, false, cond, List, length, set, is_ok, Ok, Err, Result, sym, refl, ap, ◌∙◌, ap₂, arith}
 use Rattle.std.specs.Option.{option_map}
 use Rattle.std.proofs.lemmas.List.{length-map}
 use Rattle.values.specs.Refusals.{refusal_number, numbered}
@@ -67,7 +67,7 @@ module _ (R : RelayState) (s i : ℕ) where
   fetch_found (Ok n) at eq = ap (with_state R) (two_passed R.seat_count n s i at R.state (λ n s i. fetch_on n s i R.state) eq)
 
 -- what post leaves, from its check
-pub post_done : (n s i : ℕ) (a : Activity) (l : lin.Line) (C : State) (r : Result (Unit {0}) Refusal) (lines : List lin.Line) → numbered r ≡ post_check a l → lines ≡ cond (isOk r) (set C.lines (s * n + i) (post_line a l)) C.lines → (record { seats = C.seats; lines = lines; row = C.row; lost = C.lost; looks = C.looks }, acknowledged r) ≡ post_at n s i a l C
+pub post_done : (n s i : ℕ) (a : Activity) (l : lin.Line) (C : State) (r : Result (Unit {0}) Refusal) (lines : List lin.Line) → numbered r ≡ post_check a l → lines ≡ cond (is_ok r) (set C.lines (s * n + i) (post_line a l)) C.lines → (record { seats = C.seats; lines = lines; row = C.row; lost = C.lost; looks = C.looks }, acknowledged r) ≡ post_at n s i a l C
 post_done n s i a l C (Ok u) lines told is =
     let f : List lin.Line → State × Answer = λ ls. (record { seats = C.seats; lines = ls; row = C.row; lost = C.lost; looks = C.looks }, ok) in
     ap f is ∙ (ap (checked C (with_line n C s i (post_line a l), ok)) told ∙ sym (post_is n s i a l C))

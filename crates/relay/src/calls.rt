@@ -1,7 +1,7 @@
 // The calls of a relay. Each makes exactly the protocol's step, or is refused, and then changes nothing.
 ghost use Rattle.std.specs.Prelude.{◌≡◌, ◌*◌, true, drop, is_err};
 ghost use Rattle.banks.specs.Row.{size_of};
-ghost use Rattle.protocol.specs.Answers.{begin_write as write-call, begin_read as read-call, post as post-call, fetch as fetch-call, stop as stop-call};
+ghost use Rattle.protocol.specs.Answers.{begin_write as write_call, begin_read as read_call, post as post_call, fetch as fetch_call, stop as stop_call};
 ghost use Rattle.records.specs.Means.{told};
 ghost use Rattle.relay.specs.Effects.{BeyondAll};
 ghost use Rattle.relay.specs.RelayState.{relay_state, relay_step};
@@ -28,7 +28,7 @@ impl<B> Relay<B> {
     ) -> Result<(), Refusal>
     where
         B: Bank<V>,
-        ensures step { (relay_state V.Kind.code (B.Bank.row self.now.bank) self.now.inner seats.now lines.new, acknowledged result) ≡ relay_step (relay_state V.Kind.code (B.Bank.row self.now.bank) self.now.inner seats.now lines.old) (post-call seat provider) }
+        ensures step { (relay_state V.Kind.code (B.Bank.row self.now.bank) self.now.inner seats.now lines.new, acknowledged result) ≡ relay_step (relay_state V.Kind.code (B.Bank.row self.now.bank) self.now.inner seats.now lines.old) (post_call seat provider) }
         ensures beyond { drop (self.now.inner.seats * size_of (B.Bank.row self.now.bank)) lines.new ≡ drop (self.now.inner.seats * size_of (B.Bank.row self.now.bank)) lines.old }
         ensures refusal { is_err result ≡ true → lines.new ≡ lines.old }
     {
@@ -46,7 +46,7 @@ impl<B> Relay<B> {
     ) -> Result<Answer<V>, Refusal>
     where
         B: Bank<V>,
-        ensures step { (relay_state V.Kind.code (B.Bank.row self.new.bank) self.new.inner seats.new lines.new, told V.Kind.code result) ≡ relay_step (relay_state V.Kind.code (B.Bank.row self.old.bank) self.old.inner seats.old lines.old) (fetch-call seat provider) }
+        ensures step { (relay_state V.Kind.code (B.Bank.row self.new.bank) self.new.inner seats.new lines.new, told V.Kind.code result) ≡ relay_step (relay_state V.Kind.code (B.Bank.row self.old.bank) self.old.inner seats.old lines.old) (fetch_call seat provider) }
         ensures beyond { BeyondAll self.old.inner.seats (size_of (B.Bank.row self.old.bank)) seats.old lines.old seats.new lines.new }
         ensures refusal { is_err result ≡ true → (seats.new ≡ seats.old) × (lines.new ≡ lines.old) × (self.new.inner ≡ self.old.inner) }
     {
@@ -64,7 +64,7 @@ impl<B> Relay<B> {
     ) -> Result<(), Refusal>
     where
         B: Bank<V>,
-        ensures step { (relay_state V.Kind.code (B.Bank.row self.now.bank) self.now.inner seats.new lines.new, acknowledged result) ≡ relay_step (relay_state V.Kind.code (B.Bank.row self.now.bank) self.now.inner seats.old lines.old) (write-call seat (V.Kind.code value)) }
+        ensures step { (relay_state V.Kind.code (B.Bank.row self.now.bank) self.now.inner seats.new lines.new, acknowledged result) ≡ relay_step (relay_state V.Kind.code (B.Bank.row self.now.bank) self.now.inner seats.old lines.old) (write_call seat (V.Kind.code value)) }
         ensures beyond { BeyondAll self.now.inner.seats (size_of (B.Bank.row self.now.bank)) seats.old lines.old seats.new lines.new }
         ensures refusal { is_err result ≡ true → (seats.new ≡ seats.old) × (lines.new ≡ lines.old) }
     {
@@ -82,7 +82,7 @@ impl<B> Relay<B> {
     ) -> Result<(), Refusal>
     where
         B: Bank<V>,
-        ensures step { (relay_state V.Kind.code (B.Bank.row self.now.bank) self.now.inner seats.new lines.new, acknowledged result) ≡ relay_step (relay_state V.Kind.code (B.Bank.row self.now.bank) self.now.inner seats.old lines.old) (read-call seat settled) }
+        ensures step { (relay_state V.Kind.code (B.Bank.row self.now.bank) self.now.inner seats.new lines.new, acknowledged result) ≡ relay_step (relay_state V.Kind.code (B.Bank.row self.now.bank) self.now.inner seats.old lines.old) (read_call seat settled) }
         ensures beyond { BeyondAll self.now.inner.seats (size_of (B.Bank.row self.now.bank)) seats.old lines.old seats.new lines.new }
         ensures refusal { is_err result ≡ true → (seats.new ≡ seats.old) × (lines.new ≡ lines.old) }
     {
@@ -105,7 +105,7 @@ impl<B> Relay<B> {
     ) -> Result<(), Refusal>
     where
         B: Bank<V>,
-        ensures step { (relay_state V.Kind.code (B.Bank.row self.now.bank) self.now.inner seats.new lines.now, acknowledged result) ≡ relay_step (relay_state V.Kind.code (B.Bank.row self.now.bank) self.now.inner seats.old lines.now) (stop-call seat) }
+        ensures step { (relay_state V.Kind.code (B.Bank.row self.now.bank) self.now.inner seats.new lines.now, acknowledged result) ≡ relay_step (relay_state V.Kind.code (B.Bank.row self.now.bank) self.now.inner seats.old lines.now) (stop_call seat) }
         ensures beyond { drop self.now.inner.seats seats.new ≡ drop self.now.inner.seats seats.old }
         ensures refusal { is_err result ≡ true → seats.new ≡ seats.old }
     {

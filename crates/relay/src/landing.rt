@@ -1,7 +1,7 @@
 // A request arrives at its provider.
 ghost use Rattle.std.specs.Prelude.{◌≡◌, ℕ, ◌+◌, ◌-◌, ◌*◌, ◌<◌, ◌≤◌, true, length, drop, is_err, slice_index_or};
 ghost use Rattle.banks.specs.Row.{has, absent, size_of};
-ghost use Rattle.protocol.specs.Answers.{land as land-call};
+ghost use Rattle.protocol.specs.Answers.{land as land_call};
 ghost use Rattle.records.specs.Means.{request_means};
 ghost use Rattle.relay.specs.Effects.{Keyed, Asked, Landed};
 ghost use Rattle.relay.specs.RelayState.{relay_state, relay_step, lost_flags};
@@ -72,7 +72,7 @@ impl<B> Relay<B> {
     ) -> Result<(), Refusal>
     where
         B: Bank<V>,
-        ensures step { (relay_state V.Kind.code (B.Bank.row self.new.bank) self.new.inner seats.now lines.new, acknowledged result) ≡ relay_step (relay_state V.Kind.code (B.Bank.row self.old.bank) self.old.inner seats.now lines.old) (land-call seat provider) }
+        ensures step { (relay_state V.Kind.code (B.Bank.row self.new.bank) self.new.inner seats.now lines.new, acknowledged result) ≡ relay_step (relay_state V.Kind.code (B.Bank.row self.old.bank) self.old.inner seats.now lines.old) (land_call seat provider) }
         ensures beyond { drop (self.old.inner.seats * size_of (B.Bank.row self.old.bank)) lines.new ≡ drop (self.old.inner.seats * size_of (B.Bank.row self.old.bank)) lines.old }
         ensures refusal { is_err result ≡ true → lines.new ≡ lines.old }
         ensures inner { self.new.inner ≡ self.old.inner }

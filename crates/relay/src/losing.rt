@@ -2,7 +2,7 @@
 ghost use Rattle.std.specs.Prelude.{◌≡◌, true, false, is_err, slice_index_or};
 ghost use Rattle.std.specs.Option.{option_map};
 ghost use Rattle.values.specs.Refusals.{numbered, refusal_number};
-ghost use Rattle.protocol.specs.Answers.{lose as lose-call};
+ghost use Rattle.protocol.specs.Answers.{lose as lose_call};
 ghost use Rattle.relay.specs.RelayState.{relay_state, relay_step, lost_flags, looks_answer};
 ghost use Rattle.relay.specs.Effects.{LostAt};
 ghost use Rattle.relay.specs.Sheets.{acknowledged};
@@ -58,7 +58,7 @@ impl<B> Relay<B> {
     ) -> Result<(), Refusal>
     where
         B: Bank<V>,
-        ensures step { (relay_state V.Kind.code (B.Bank.row self.new.bank) self.new.inner seats.now lines.now, acknowledged result) ≡ relay_step (relay_state V.Kind.code (B.Bank.row self.old.bank) self.old.inner seats.now lines.now) (lose-call provider) }
+        ensures step { (relay_state V.Kind.code (B.Bank.row self.new.bank) self.new.inner seats.now lines.now, acknowledged result) ≡ relay_step (relay_state V.Kind.code (B.Bank.row self.old.bank) self.old.inner seats.now lines.now) (lose_call provider) }
         ensures refusal { is_err result ≡ true → self.new.inner ≡ self.old.inner }
     {
         let i = self.find_provider::<V>(seats.len(), lines.len(), provider)?;

@@ -6,7 +6,7 @@ ghost use Rattle.values.specs.Rank.{rank};
 ghost use Rattle.stores.specs.Operations.{pair_means};
 ghost use Rattle.protocol.specs.Lines.{blank_line};
 ghost use Rattle.protocol.specs.Seats.{blank_seat};
-ghost use Rattle.protocol.specs.Phases.{done_lines, largest_listed, newer as newer-of, newest_found};
+ghost use Rattle.protocol.specs.Phases.{done_lines, largest_listed, newer as newer_of, newest_found};
 ghost use Rattle.protocol.specs.State.{line_at, restart_lines};
 ghost use Rattle.records.specs.Means.{line_means, seat_means};
 ghost use Rattle.relay.specs.Sheets.{seats_mean, lines_mean};
@@ -90,7 +90,7 @@ pub(crate) fn largest_key<V: Kind>(lines: &[Line<V>], n: usize, s: usize) -> Key
 
 // The newer of two pairs: the first, unless the second has a larger version.
 fn newer<V: Kind>(one: Option<Stored<V>>, two: Option<Stored<V>>) -> Option<Stored<V>>
-    ensures { option_map (pair_means V.Kind.code) result ≡ newer-of (option_map (pair_means V.Kind.code) one) (option_map (pair_means V.Kind.code) two) }
+    ensures { option_map (pair_means V.Kind.code) result ≡ newer_of (option_map (pair_means V.Kind.code) one) (option_map (pair_means V.Kind.code) two) }
 {
     match (one, two) {
         (_, None) => one,

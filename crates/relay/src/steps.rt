@@ -3,7 +3,7 @@ ghost use Rattle.std.specs.Prelude.{◌≡◌, ℕ, suc, ◌+◌, ◌*◌, ◌<�
 ghost use Rattle.protocol.specs.Phases.{phase_result};
 ghost use Rattle.protocol.specs.Seats.{activity, blank_seat, turned_to};
 ghost use Rattle.protocol.specs.State.{line_at, restart_lines};
-ghost use Rattle.protocol.specs.Steps.{post_line, begin_at, conclude as conclude-as, unless_full, take_answer as take-as, stop_at};
+ghost use Rattle.protocol.specs.Steps.{post_line, begin_at, conclude as conclude_as, unless_full, take_answer as take_as, stop_at};
 ghost use Rattle.values.specs.Refusals.{numbered};
 ghost use Rattle.records.specs.Means.{progress_means, answer_means, accepted_as, told, seat_means};
 ghost use Rattle.records.specs.declared.line.Line.{Line as SheetLine};
@@ -101,7 +101,7 @@ fn conclude<V: Kind>(
     requires seat { s < length seats.old }
     requires line { s * n + n ≤ length lines.old }
     requires is { seat_means V.Kind.code seat ≡ slice_index_or (seats_mean V.Kind.code seats.old) s blank_seat }
-    ensures step { (looks : ℕ) → Steps V.Kind.code (conclude-as n s (outcome_means V.Kind.code outcome)) seats.old lines.old looks seats.new lines.new looks (accepted_as V.Kind.code result) }
+    ensures step { (looks : ℕ) → Steps V.Kind.code (conclude_as n s (outcome_means V.Kind.code outcome)) seats.old lines.old looks seats.new lines.new looks (accepted_as V.Kind.code result) }
     ensures beyond { Beyond s (s * n + n) seats.old lines.old seats.new lines.new }
 {
     match outcome {
@@ -151,7 +151,7 @@ fn take_answer<V: Kind>(
     requires provider { at.provider < at.providers }
     requires line { at.seat * at.providers + at.providers ≤ length lines.old }
     requires is { seat_means V.Kind.code seat ≡ slice_index_or (seats_mean V.Kind.code seats.old) at.seat blank_seat }
-    ensures step { Steps V.Kind.code (take-as at.providers at.seat at.provider (activity (seat_means V.Kind.code seat)) (answer_means V.Kind.code line.answer) (progress_means V.Kind.code line)) seats.old lines.old looks.old seats.new lines.new looks.new (accepted_as V.Kind.code result) }
+    ensures step { Steps V.Kind.code (take_as at.providers at.seat at.provider (activity (seat_means V.Kind.code seat)) (answer_means V.Kind.code line.answer) (progress_means V.Kind.code line)) seats.old lines.old looks.old seats.new lines.new looks.new (accepted_as V.Kind.code result) }
     ensures beyond { Beyond at.seat (at.seat * at.providers + at.providers) seats.old lines.old seats.new lines.new }
 {
     let n = at.providers;

@@ -1,7 +1,7 @@
 -- On a relay that open accepted, every call is the protocol's step; so the law of the protocol's runs is that of the relay's.
 use Rattle.std.proofs.Common.{◌≡◌, ℕ, zero, suc, ◌+◌, ◌-◌, ◌*◌, ◌^◌, ◌<◌, ◌≤◌, false, ◌&&◌, ◌||◌, ltb, List, [], ◌∷◌, length, get_or, None, Ok, Err, sym, refl, ap, ◌∙◌, subst₂, arith}
 use native.Mathlib.Nat.{min-eq_left}
-use Rattle.std.specs.List.{AllByRecursion as All}
+use Rattle.std.specs.List.{AllByRecursion}
 use Rattle.std.proofs.lemmas.Bool.{and_left, and_right, or_from, le-ltb, cond-false}
 use Rattle.stores.specs.Provider.{Provider}
 use Rattle.banks.specs.Row.{size_of}
@@ -19,7 +19,7 @@ use Rattle.runs.specs.Runs.{run_answers, run_end}
 use Rattle.runs.proofs.Openings.{passed, is_opened, few_sized}
 
 -- what holds of all providers holds of each, also of one that there is not
-any_place : (P : Provider → Type 0) (row : List Provider) → All P row → P no_provider → (i : ℕ) → P (get_or row i no_provider)
+any_place : (P : Provider → Type 0) (row : List Provider) → AllByRecursion P row → P no_provider → (i : ℕ) → P (get_or row i no_provider)
 any_place P [] a none i = none
 any_place P (p ∷ row) a none zero = a.0
 any_place P (p ∷ row) a none (suc i) = any_place P row a.1 none i

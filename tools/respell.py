@@ -12,7 +12,7 @@ import os
 import re
 import sys
 
-OWN = re.compile(r"Rattle\.(values|stores|table|journal|banks|protocol|records|relay|runs|worked)\.")
+OWN = re.compile(r"Rattle\.(values|stores|banks_tests|table|journal|banks|protocol|records|relay|runs|worked)\.")
 NAME = r"[^\W\d][\w'ℕ≡+*≤-]*"
 TOKEN = re.compile(r"(?<![\w'-])(" + NAME + r"-[\w'ℕ≡+*≤-]*)")
 DEF = re.compile(r"\s*((?:abbrev |unfoldable |pub |record |data )*)([^\s:(){}λ⌜]+) ?((?:\([^)]*\) |\{[^}]*\} )*): (.*)")

@@ -1,4 +1,4 @@
-ghost use Rattle.banks_tests.specs.Slots.{slot-cells};
+ghost use Rattle.banks_tests.specs.Slots.{slot_cells};
 
 use crate::slot::{Held, Slot};
 use stores::store::Store;
@@ -8,7 +8,7 @@ use values::refusal::Refusal;
 use values::version::{Key, Version};
 
 impl<V: Kind> Store<V> for Slot<V> {
-    ghost provider = { λ s. record { capacity = 1; cells = slot-cells V.Kind.code s.held } };
+    ghost provider = { λ s. record { capacity = 1; cells = slot_cells V.Kind.code s.held } };
 
     fn lawful(&self) {}
 

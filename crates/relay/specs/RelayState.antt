@@ -42,18 +42,18 @@ asks_list (answered b r) = false
 abbrev pub overlong : ℕ → ℕ → ℕ → State → Bool
 overlong n s i C = asks_list (line_at n C.lines s i).state && nat_lt 32 (length (provider_at C i).cells)
 
-abbrev pub is_ok : Answer → Bool
-is_ok ok = true
-is_ok on = false
-is_ok dropped = false
-is_ok (wrote v) = false
-is_ok (read v x) = false
-is_ok read_none = false
-is_ok used = false
-is_ok (refused e) = false
+abbrev pub is_ok_answer : Answer → Bool
+is_ok_answer ok = true
+is_ok_answer on = false
+is_ok_answer dropped = false
+is_ok_answer (wrote v) = false
+is_ok_answer (read v x) = false
+is_ok_answer read_none = false
+is_ok_answer used = false
+is_ok_answer (refused e) = false
 
 abbrev pub unless_overlong : Bool → State → State × Answer → State × Answer
-unless_overlong long C y = cond (long && is_ok y.1) (C, refused 16) y
+unless_overlong long C y = cond (long && is_ok_answer y.1) (C, refused 16) y
 
 abbrev pub relay_call : ℕ → ℕ → State → Call → State × Answer
 relay_call m n C (begin_write s x) = step m n C (begin_write s x)

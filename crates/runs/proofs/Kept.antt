@@ -22,7 +22,7 @@ use Rattle.records.specs.declared.answer.Answer.TheVariants as said
 use Rattle.records.specs.declared.line.Line.{Line}
 use Rattle.records.specs.declared.seat.Seat.{Seat}
 use Rattle.relay.specs.Effects.{BeyondAll}
-use Rattle.relay.specs.RelayState.{RelayState, admission, admitted, is_ok, overlong, unless_overlong, relay_call, relay_step}
+use Rattle.relay.specs.RelayState.{RelayState, admission, admitted, is_ok_answer, overlong, unless_overlong, relay_call, relay_step}
 
 pub seats_kept : (R : RelayState) (c : Call) → (relay_step R c).0.seat_count ≡ R.seat_count
 seats_kept R c = by (admission R.refusal R.seat_count (size_of R.state.row) (length R.state.seats) (length R.state.lines))
@@ -61,7 +61,7 @@ module _ (C : State) where
       checked (foreign a (record { state = answered false r; progress = p })) 14 (take_answer n s i a r p C) (concluded n s (unless_full r (phase_result n (suc s) (line_at n D.lines s) a)) D refl)
 
   guarded : (b : Bool) (y : State × Answer) → AsMany y → AsMany (unless_overlong b C y)
-  guarded b y h = cond_both (b && is_ok y.1) (C, refused 16) y AsMany (λ _. same (C, refused 16) refl) (λ _. h)
+  guarded b y h = cond_both (b && is_ok_answer y.1) (C, refused 16) y AsMany (λ _. same (C, refused 16) refl) (λ _. h)
 
   module _ (m n s : ℕ) where
     begun : (a : Activity) → AsMany (begin_step m n s a C)

@@ -14,7 +14,7 @@ use Rattle.protocol.specs.State.{State, no_provider, provider_at, line_at}
 use Rattle.protocol.specs.Steps.{step}
 use Rattle.protocol.proofs.Lawfulness.{Sound, sound, first, bounded, law}
 use Rattle.relay.specs.Opening.{open_check, opened}
-use Rattle.relay.specs.RelayState.{RelayState, admission, admitted, asks_list, overlong, is_ok, relay_call, relay_step}
+use Rattle.relay.specs.RelayState.{RelayState, admission, admitted, asks_list, overlong, is_ok_answer, relay_call, relay_step}
 use Rattle.runs.specs.Runs.{run_answers, run_end}
 use Rattle.runs.proofs.Openings.{passed, is_opened, few_sized}
 
@@ -42,7 +42,7 @@ module _ (m n : ℕ) (n0 : 0 < n) (few : m ≤ 16) (small : m ≤ 65534) (narrow
     call_same (post s i) = refl
     call_same (land s i) =
         let y = step m n C (land s i) in
-        cond-false (overlong n (s - 1) (i - 1) C && is_ok y.1) (C, refused 16) y (and_left (overlong n (s - 1) (i - 1) C) (is_ok y.1) (short (s - 1) (i - 1)))
+        cond-false (overlong n (s - 1) (i - 1) C && is_ok_answer y.1) (C, refused 16) y (and_left (overlong n (s - 1) (i - 1) C) (is_ok_answer y.1) (short (s - 1) (i - 1)))
     call_same (fetch s i) = refl
     call_same (stop s) = refl
     call_same (lose i) = refl

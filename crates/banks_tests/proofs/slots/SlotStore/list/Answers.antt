@@ -3,7 +3,7 @@ use Rattle.std.proofs.lemmas.List.{set_split}
 use Rattle.std.proofs.lemmas.Bool.{eqb-false, le-leb, cond-true}
 use Rattle.values.specs.declared.version.Version.{Version}
 use Rattle.stores.specs.Operations.{list_answer, list_sheet}
-use Rattle.banks_tests.specs.Slots.{slot-cells}
+use Rattle.banks_tests.specs.Slots.{slot_cells}
 use Rattle.banks_tests.proofs.slots.SlotStore.list.Goals as goal
 
 filled : (sheet : List Version) → false ≡ eqb (length sheet) 0 → 1 ≤ length sheet
@@ -18,10 +18,10 @@ returns-else-is_empty g c =
     record {
       answer =
           sym (cond-true (leb 1 (length sheet)) (Ok 1) (Err 16) fits)
-          ∙ sym (ap (λ h. list_answer (record { capacity = 1; cells = slot-cells code h }) sheet) c.in-Some.is);
+          ∙ sym (ap (λ h. list_answer (record { capacity = 1; cells = slot_cells code h }) sheet) c.in-Some.is);
       after =
           set_split sheet 0 c.ranked.result some
           ∙ ap (λ k. k ∷ drop 1 sheet) c.ranked.ensures
           ∙ sym (cond-true (leb 1 (length sheet)) _ _ fits)
-          ∙ sym (ap (λ h. list_sheet (record { capacity = 1; cells = slot-cells code h }) sheet) c.in-Some.is);
+          ∙ sym (ap (λ h. list_sheet (record { capacity = 1; cells = slot_cells code h }) sheet) c.in-Some.is);
     }

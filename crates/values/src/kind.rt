@@ -10,7 +10,7 @@ pub trait Kind: Copy {
     // how many bytes a value is written as
     const WIDTH: usize;
 
-    ghost wide: { ℕ };
+    ghost WIDTH: { ℕ };
 
     // what a record means
     ghost Meaning: { Type 0 };
@@ -29,25 +29,21 @@ pub trait Kind: Copy {
     // the blank record
     ghost nothing: { Self };
 
-    // The width. (No clause can cite a constant of a trait, so generic code calls this.)
-    fn size() -> usize
-        ensures { result ≡ wide };
-
     fn blank() -> Self
         ensures { result ≡ nothing };
 
     // Writes the value's bytes into a sheet of exactly the kind's width.
     fn write(&self, sheet: &mut [u8]) -> Result<(), Refusal>
-        ensures answer { numbered result ≡ write_answer wide sheet.old }
-        ensures after { sheet.new ≡ write_sheet wide (code self.now) sheet.old };
+        ensures answer { numbered result ≡ write_answer WIDTH sheet.old }
+        ensures after { sheet.new ≡ write_sheet WIDTH (code self.now) sheet.old };
 
     // Reads a value from a sheet of exactly the kind's width.
     fn read(sheet: &[u8]) -> Result<Self, Refusal>
-        ensures answer { outcome means result ≡ read_answer wide decoded sheet.now };
+        ensures answer { outcome means result ≡ read_answer WIDTH decoded sheet.now };
 
-    ghost width: { (1 ≤ wide) × (wide ≤ 64) };
+    ghost width: { (1 ≤ WIDTH) × (WIDTH ≤ 64) };
 
-    ghost whole: { (v : Self) → length (code v) ≡ wide };
+    ghost whole: { (v : Self) → length (code v) ≡ WIDTH };
 
     // what is written follows from the meaning alone
     ghost follows: { (v : Self) → code v ≡ coded (means v) };

@@ -2,11 +2,7 @@
 #![tactic(auto)]
 
 pub mod hold;
-pub mod holds;
 pub mod kind;
-pub mod order;
 pub mod refusal;
-pub mod refusals;
 pub mod secret;
-pub mod secrets;
 pub mod version;

@@ -1,6 +1,9 @@
+ghost use Rattle.std.specs.Prelude.{◌≡◌, max, ◌==◌, nat_lt};
+ghost use Rattle.values.specs.Rank.{rank, version_of};
+
 // A version of the register: a sequence number, and the seat that wrote it.
 // A seat is one participant of an office. Versions compare by number, then by seat, and (0, 0) means no version.
-#[derive(Clone, Copy, PartialEq, Eq, Debug)]
+#[derive(Clone, Copy, PartialEq, Eq, PartialOrd, Ord, Debug)]
 pub struct Version {
     pub number: u32,
     pub seat: u16,
@@ -9,3 +12,41 @@ pub struct Version {
 // A key of a provider's map is a pair of the same form. (0, 0) is the standing key, under which the register's value
 // always stands; every other key is temporary, and is named after the version that it holds.
 pub type Key = Version;
+
+impl Version {
+    // (No `Option` of a version: (0, 0) is what records and logs hold where there is none, and its rank is 0.)
+    pub const NONE: Version = Version { number: 0, seat: 0 };
+
+    pub const STANDING: Version = Version { number: 0, seat: 0 };
+
+    // Whether this version comes before the other. (`<` compares the parts. That the ranks compare alike needs the parts'
+    // widths, which are known here of the parameters, and not of every version that lies in memory. So with `same` and
+    // `later`.)
+    pub fn before(self, other: Version) -> bool
+        ensures { result ≡ nat_lt (rank self) (rank other) }
+    {
+        self < other
+    }
+
+    // The later of the two.
+    pub fn later(self, other: Version) -> Version
+        ensures { rank result ≡ max (rank self) (rank other) }
+    {
+        self.max(other)
+    }
+
+    // Whether the two are the same version.
+    pub fn same(self, other: Version) -> bool
+        ensures { result ≡ (rank self == rank other) }
+    {
+        self == other
+    }
+
+    // The version itself, as lists of keys give it: by its rank, which says both parts, as these have their widths.
+    pub fn ranked(self) -> Version
+        ensures { result ≡ version_of (rank self) }
+    {
+        let Version { number, seat } = self;
+        Version { number, seat }
+    }
+}

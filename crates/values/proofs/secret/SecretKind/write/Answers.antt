@@ -2,7 +2,7 @@ use Rattle.std.proofs.Common.{length, ap, arith}
 use Rattle.std.proofs.lemmas.List.{length-take, length-drop, length-set}
 use Rattle.values.specs.Secrets.{contents}
 use Rattle.values.specs.Coding.{contents_short, written}
-use Rattle.values.proofs.secrets.SecretKind.write.Goals as goal
+use Rattle.values.proofs.secret.SecretKind.write.Goals as goal
 
 pub overflow_cast-sheet : goal.overflow_cast-sheet
 overflow_cast-sheet c = let s = contents_short c.args.self.now in let e = ap length c.as_bytes-text.ensures in omega arith

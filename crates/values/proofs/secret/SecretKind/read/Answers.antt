@@ -1,5 +1,5 @@
 use Rattle.values.specs.Coding.{read_back}
-use Rattle.values.proofs.secrets.SecretKind.read.Goals as goal
+use Rattle.values.proofs.secret.SecretKind.read.Goals as goal
 
 pub returns : goal.returns
 returns c =

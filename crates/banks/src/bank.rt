@@ -19,12 +19,6 @@ use values::version::{Key, Version};
 pub trait Bank<V: Kind> {
     ghost row: { Self → List Provider };
 
-    // Does nothing. Its contract says what holds of every bank: it has a provider, and each provider's map is ascending
-    // and no larger than its capacity. (A law of the trait would say it, but no type with a lifetime can answer one.)
-    fn lawful(&self)
-        ensures some { 1 ≤ length (row self.now) }
-        ensures sound { AllByRecursion Sound (row self.now) };
-
     // How many providers there are.
     fn size(&self) -> usize
         ensures { result ≡ size_of (row self.now) };
@@ -55,4 +49,9 @@ pub trait Bank<V: Kind> {
     fn remove(&mut self, i: usize, key: Key) -> Result<(), Refusal>
         ensures answer { numbered result ≡ answer_of i (row self.old) (λ _. Ok tt) }
         ensures after { row self.new ≡ row_after i (row self.old) (remove_after (rank key)) };
+
+    // It has a provider, and each provider's map is ascending and no larger than its capacity.
+    ghost some: { (b : Self) → 1 ≤ length (row b) };
+
+    ghost sound: { (b : Self) → AllByRecursion Sound (row b) };
 }

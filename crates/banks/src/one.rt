@@ -1,4 +1,5 @@
 ghost use Rattle.std.specs.Prelude.{◌≡◌, [], ◌∷◌, if◌then◌else◌, Ok, Err, nat_eq};
+ghost use Rattle.std.proofs.Common.{rules};
 ghost use Rattle.values.specs.Refusals.{numbered};
 
 use crate::bank::Bank;
@@ -26,9 +27,9 @@ fn only(i: usize) -> Result<(), Refusal>
 impl<V: Kind, S: Store<V>> Bank<V> for One<S> {
     ghost row = { λ b. S.Store.provider b.0 ∷ [] };
 
-    fn lawful(&self) {
-        self.0.lawful();
-    }
+    ghost some = { λ b. Prim.search rules };
+
+    ghost sound = { λ b. (record { few = S.Store.few b.0; sorted = S.Store.sorted b.0 }, tt) };
 
     fn size(&self) -> usize {
         1

@@ -1,5 +1,7 @@
 ghost use Rattle.std.specs.Prelude.{◌++◌};
+ghost use Rattle.std.proofs.ByRecursion.{All-append};
 ghost use Rattle.banks.specs.Sides.{Leads};
+ghost use Rattle.banks.specs.Sound.{Sound, some_joined};
 
 use crate::bank::Bank;
 use crate::side::Side;
@@ -15,11 +17,11 @@ pub struct Two<L, R> {
     pub right: R,
 }
 
-// Where number i of two banks leads. A number that no provider has leads to a bank that refuses it.
+// Where number i of two banks leads. A number that no provider has leads to a bank that refuses it. (Each operation goes
+// on by a match: a function that took the operation as a closure for each side would be no shorter at its calls.)
 fn side<V: Kind, L: Bank<V>, R: Bank<V>>(bank: &Two<L, R>, i: usize) -> Side
     ensures { Leads result i (L.Bank.row bank.now.left) (R.Bank.row bank.now.right) }
 {
-    bank.left.lawful();
     let n = bank.left.size();
     if i <= n {
         Side::Left
@@ -31,10 +33,9 @@ fn side<V: Kind, L: Bank<V>, R: Bank<V>>(bank: &Two<L, R>, i: usize) -> Side
 impl<V: Kind, L: Bank<V>, R: Bank<V>> Bank<V> for Two<L, R> {
     ghost row = { λ b. L.Bank.row b.left ++ R.Bank.row b.right };
 
-    fn lawful(&self) {
-        self.left.lawful();
-        self.right.lawful();
-    }
+    ghost some = { λ b. some_joined (L.Bank.row b.left) (R.Bank.row b.right) (L.Bank.some b.left) };
+
+    ghost sound = { λ b. All-append Sound (L.Bank.row b.left) (R.Bank.row b.right) (L.Bank.sound b.left) (R.Bank.sound b.right) };
 
     fn size(&self) -> usize {
         self.left.size().saturating_add(self.right.size())

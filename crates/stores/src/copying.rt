@@ -16,7 +16,7 @@ fn copy_listed<V: Kind, S: Store<V>, T: Store<V>>(from: &S, to: &mut T, listed: 
     ensures answer { result ≡ put_count (S.Store.provider from.now).cells (T.Store.provider to.old) }
     ensures after { T.Store.provider to.new ≡ put_all (S.Store.provider from.now).cells (T.Store.provider to.old) }
 {
-    from.lawful();
+    // The place at which the loop ends is the answer, so it is counted.
     for (i, key) in listed.iter().enumerate() {
         let Some(stored) = from.get(*key) else {
             return i;

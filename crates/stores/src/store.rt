@@ -15,12 +15,6 @@ use values::version::{Key, Version};
 pub trait Store<V: Kind> {
     ghost provider: { Self → Provider };
 
-    // Does nothing. Its contract says what holds of every provider: its map is ascending, and no larger than its
-    // capacity. (A law of the trait would say it, but no type with a lifetime can answer one.)
-    fn lawful(&self)
-        ensures few { length (provider self.now).cells ≤ (provider self.now).capacity }
-        ensures sorted { ascending (keys (provider self.now)) ≡ true };
-
     // How many keys the provider can hold.
     fn capacity(&self) -> usize
         ensures { result ≡ (provider self.now).capacity };
@@ -38,7 +32,8 @@ pub trait Store<V: Kind> {
         ensures answer { numbered result ≡ list_answer (provider self.now) sheet.old }
         ensures after { sheet.new ≡ list_sheet (provider self.now) sheet.old };
 
-    // Puts a version and a value under a key: over what it holds there, or as a new key if there is room.
+    // Puts a version and a value under a key: over what it holds there, or as a new key if there is room. (They are two
+    // parameters and no `Stored<V>`: with that, the check asked each implementation to write these clauses out again.)
     fn put(&mut self, key: Key, version: Version, value: V) -> Result<(), Refusal>
         ensures answer { numbered result ≡ put_answer (cell key version (V.Kind.code value)) (provider self.old) }
         ensures after { provider self.new ≡ put_after (cell key version (V.Kind.code value)) (provider self.old) };
@@ -46,15 +41,20 @@ pub trait Store<V: Kind> {
     // Takes a key out, if it is there.
     fn remove(&mut self, key: Key)
         ensures after { provider self.new ≡ remove_after (rank key) (provider self.old) };
+
+    // Its map is no larger than its capacity, and ascending.
+    ghost few: { (s : Self) → length (provider s).cells ≤ (provider s).capacity };
+
+    ghost sorted: { (s : Self) → ascending (keys (provider s)) ≡ true };
 }
 
 // A provider that is lent is a provider.
 impl<'r, V: Kind, S: Store<V>> Store<V> for &'r mut S {
     ghost provider = { λ s. S.Store.provider s.now };
 
-    fn lawful(&self) {
-        (**self).lawful();
-    }
+    ghost few = { λ s. S.Store.few s.now };
+
+    ghost sorted = { λ s. S.Store.sorted s.now };
 
     fn capacity(&self) -> usize {
         (**self).capacity()

@@ -7,7 +7,7 @@ use Rattle.stores.proofs.CopySteps.{first, room_of, full_of, not_absent, more_co
 use Rattle.stores.proofs.copying.copy_listed.Goals as goal
 
 pub returns-in_default : goal.returns-in_default
-returns-in_default g c = absurd (not_absent (g.S.Store.provider c.args.from.now) c.args.listed.now c.loop-i.i c.requires c.loop-i-test.true c.lawful.ensures.sorted c.in_default.ensures)
+returns-in_default g c = absurd (not_absent (g.S.Store.provider c.args.from.now) c.args.listed.now c.loop-i.i c.requires c.loop-i-test.true (g.met.S.Store.sorted c.args.from.now) c.in_default.ensures)
 
 pub returns-then-is_err : goal.returns-then-is_err
 returns-then-is_err g c =
@@ -17,8 +17,8 @@ returns-then-is_err g c =
     let x = cell (get_or c.args.listed.now c.loop-i.i first) s.version (g.V.Kind.code s.value) in
     let full = full_of x q c.put.result c.put.ensures.answer (sym c.is_err.ensures.value ∙ c.if-is_err.true) in
     record {
-      answer = end_count p c.args.listed.now c.loop-i.i c.requires c.loop-i-test.true c.lawful.ensures.sorted g.V.Kind.code s c.in-Some.ensures q _ full c.loop-i.invariant.0;
-      after = end_all p c.args.listed.now c.loop-i.i c.requires c.loop-i-test.true c.lawful.ensures.sorted g.V.Kind.code s c.in-Some.ensures q _ _ full c.put.ensures.after c.loop-i.invariant.1;
+      answer = end_count p c.args.listed.now c.loop-i.i c.requires c.loop-i-test.true (g.met.S.Store.sorted c.args.from.now) g.V.Kind.code s c.in-Some.ensures q _ full c.loop-i.invariant.0;
+      after = end_all p c.args.listed.now c.loop-i.i c.requires c.loop-i-test.true (g.met.S.Store.sorted c.args.from.now) g.V.Kind.code s c.in-Some.ensures q _ _ full c.put.ensures.after c.loop-i.invariant.1;
     }
 
 pub loop-i-preserved : goal.loop-i-preserved
@@ -28,8 +28,8 @@ loop-i-preserved g c =
     let s = c.in-Some.stored in
     let x = cell (get_or c.args.listed.now c.loop-i.i first) s.version (g.V.Kind.code s.value) in
     let room = room_of x q c.put.result c.put.ensures.answer (sym c.is_err.ensures.value ∙ c.if-is_err.false) in (
-      more_count p c.args.listed.now c.loop-i.i c.requires c.loop-i-test.true c.lawful.ensures.sorted g.V.Kind.code s c.in-Some.ensures q _ _ room c.put.ensures.after c.loop-i.invariant.0,
-      more_all p c.args.listed.now c.loop-i.i c.requires c.loop-i-test.true c.lawful.ensures.sorted g.V.Kind.code s c.in-Some.ensures q _ _ room c.put.ensures.after c.loop-i.invariant.1,
+      more_count p c.args.listed.now c.loop-i.i c.requires c.loop-i-test.true (g.met.S.Store.sorted c.args.from.now) g.V.Kind.code s c.in-Some.ensures q _ _ room c.put.ensures.after c.loop-i.invariant.0,
+      more_all p c.args.listed.now c.loop-i.i c.requires c.loop-i-test.true (g.met.S.Store.sorted c.args.from.now) g.V.Kind.code s c.in-Some.ensures q _ _ room c.put.ensures.after c.loop-i.invariant.1,
     )
 
 pub returns : goal.returns

@@ -1,8 +1,6 @@
+mod Fills
 mod Searches
 mod Shifts
-mod Placing
-mod Changes
-mod Fills
 mod Layouts
 mod Providers
-mod Invariants
+mod Changes

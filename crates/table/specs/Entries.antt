@@ -1,5 +1,8 @@
-use Rattle.std.specs.Prelude.{ℕ, ◌-◌, Bool, cond, ◌||◌, List, ◌++◌, length, replicate, is_some, Ok, Err, Result, nat_lt}
+use Rattle.std.specs.Prelude.{◌≡◌, ℕ, ◌-◌, Bool, cond, ◌||◌, List, ◌++◌, length, replicate, is_some, nat_lt}
+use Rattle.std.specs.Coded.{Coded, Coded-set, coded_ℕ, coded_list, coded×, code_by}
+use mathlib.Core.Path.{refl}
 use Rattle.values.specs.Rank.{rank}
+use Rattle.values.specs.declared.version.Version.{Version}
 use Rattle.stores.specs.Keyed.{find, put}
 use Rattle.stores.specs.Provider.{Cell, cell}
 use Rattle.table.specs.declared.entry.Entry.{Entry}
@@ -15,6 +18,17 @@ entry_cell code e = cell e.key e.version (code e.value)
 abbrev pub blank_entry : {V : Type 0} → V → Entry V
 blank_entry value = record { key = record { number = 0; seat = 0 }; version = record { number = 0; seat = 0 }; value = value }
 
+-- The code of an entry, from that of its value.
+abbrev pub coded_version : Coded Version
+coded_version = code_by (ℕ × ℕ) (coded× coded_ℕ coded_ℕ) (λ v. (v.number, v.seat)) (λ p. record { number = p.0; seat = p.1 }) (λ _. refl)
+
+abbrev pub coded_entry : {V : Type 0} → Coded V → Coded (Entry V)
+coded_entry {V} value = code_by (Version × (Version × V)) (coded× coded_version (coded× coded_version value)) (λ e. (e.key, (e.version, e.value))) (λ p. record { key = p.0; version = p.1.0; value = p.1.1 }) (λ _. refl)
+
+-- So an equation between lists of entries is a fact with one proof at most, as a ghost field has to be.
+pub entries_set : {V : Type 0} → Coded V → (es es' : List (Entry V)) → IsProp (es ≡ es')
+entries_set value es es' = Coded-set (coded_list (coded_entry value)) es es'
+
 -- The parts of a table: the used entries, then blank ones up to its room, then the entries past its room.
 abbrev pub layout : {V : Type 0} → V → ℕ → List (Entry V) → List (Entry V) → List (Entry V)
 layout blank room used rest = used ++ (replicate (room - length used) (blank_entry blank) ++ rest)
@@ -25,7 +39,3 @@ entry_fits room e used = is_some (find entry_key (entry_key e) used) || nat_lt (
 
 abbrev pub put_entry : {V : Type 0} → ℕ → Entry V → List (Entry V) → List (Entry V)
 put_entry room e used = cond (entry_fits room e used) (put entry_key e used) used
-
--- how many entries are then used
-abbrev pub put_used : {V : Type 0} → ℕ → Entry V → List (Entry V) → Result ℕ ℕ
-put_used room e used = cond (entry_fits room e used) (Ok (length (put entry_key e used))) (Err 15)

@@ -1,3 +1,7 @@
+ghost use Rattle.std.specs.Prelude.{◌≡◌};
+ghost use Rattle.table.specs.Entries.{blank_entry};
+
+use values::kind::Kind;
 use values::version::{Key, Version};
 
 // One place of a table: a key, and what is held under it. A place that is not used is blank: its key and version are
@@ -7,4 +11,17 @@ pub struct Entry<V> {
     pub key: Key,
     pub version: Version,
     pub value: V,
+}
+
+impl<V: Kind> Entry<V> {
+    // The entry of a place that is not used.
+    pub fn blank() -> Entry<V>
+        ensures { result ≡ blank_entry V.Kind.nothing }
+    {
+        Entry {
+            key: Key::STANDING,
+            version: Version::NONE,
+            value: V::blank(),
+        }
+    }
 }

@@ -1,7 +1,7 @@
 -- A record that is appended, and what its replay leaves.
-use Rattle.std.proofs.Common.{◌≡◌, ℕ, ◌+◌, ◌-◌, ◌*◌, ◌<◌, ◌≤◌, true, cond, leb, List, [], ◌∷◌, ◌++◌, length, take, drop, replicate, sym, refl, ap, ◌∙◌, mul-le-mul_right, arith}
+use Rattle.std.proofs.Common.{◌≡◌, ℕ, ◌+◌, ◌-◌, ◌*◌, ◌≤◌, true, cond, leb, List, [], ◌∷◌, ◌++◌, length, take, drop, replicate, sym, refl, ap, ◌∙◌, mul-le-mul_right, arith}
 use Rattle.std.proofs.lemmas.List.{length-append, length-replicate, length-take-le, take_at, drop_at, drop-drop, drop-replicate, take-append-drop}
-use Rattle.std.proofs.lemmas.Bool.{le-leb, lt-leb, cond_both, and_from}
+use Rattle.std.proofs.lemmas.Bool.{cond_both, and_from}
 use Rattle.journal.specs.Record.{bit_map, whole}
 use Rattle.journal.specs.Log.{log, sound, joined, filled, live, replay, step, appended}
 use Rattle.journal.specs.Walk.{overlay, packed, Logged}
@@ -64,14 +64,6 @@ room_packed w room n r rs h o few fits =
     let z = whole_size w r o in
     let s = size_le w (bit_map r) in
     omega arith
-
-pub appended_fits : (n : ℕ) (r : List ℕ) (rs : List (List ℕ)) → length (joined rs) + length r ≤ n → appended n r rs ≡ rs ++ r ∷ []
-unfolding appended
-appended_fits n r rs le = ap (λ b. cond b rs (live rs) ++ r ∷ []) (le-leb (length (joined rs) + length r) n le)
-
-pub appended_packed : (n : ℕ) (r : List ℕ) (rs : List (List ℕ)) → n < length (joined rs) + length r → appended n r rs ≡ live rs ++ r ∷ []
-unfolding appended
-appended_packed n r rs gt = ap (λ b. cond b rs (live rs) ++ r ∷ []) (lt-leb (length (joined rs) + length r) n gt)
 
 -- an appended record steps the map, packed or not
 pub replay_appended : (n : ℕ) (r : List ℕ) (rs : List (List ℕ)) → replay (appended n r rs) ≡ step r (replay rs)

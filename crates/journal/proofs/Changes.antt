@@ -1,68 +1,120 @@
--- What a put and a remove leave, from what was appended.
-use Rattle.std.proofs.Common.{◌≡◌, ℕ, ◌+◌, ◌-◌, ◌<◌, ◌≤◌, Bool, true, false, ltb, List, [], length, take, is_some, Ok, Err, Result, sym, refl, ap, ◌∙◌, subst, arith}
-use Rattle.std.proofs.lemmas.Bool.{cond-true, lt-ltb, or_left, or_right}
-use Rattle.stores.specs.Keyed.{find, put, without}
+-- What an appended record leaves, and how many keys a put and a remove leave.
+use Rattle.std.proofs.Common.{◌≡◌, ℕ, ◌+◌, ◌-◌, ◌<◌, ◌≤◌, true, false, cond, leb, List, [], ◌∷◌, ◌++◌, length, take, drop, replicate, is_some, sym, refl, ap, ◌∙◌, subst, arith}
+use Rattle.std.proofs.lemmas.Bool.{le-leb, lt-leb}
+use Rattle.stores.specs.Keyed.{find, put}
 use Rattle.stores.specs.Provider.{Cell, cell_key}
-use Rattle.stores.specs.Operations.{room_for, put_answer}
-use Rattle.journal.specs.Record.{put_record, remove_record}
+use Rattle.journal.specs.declared.journal.Journal.{Journal}
+use Rattle.journal.specs.Record.{whole, put_record, remove_record}
 use Rattle.journal.specs.Codec.{ReadsPut, ReadsRemove}
-use Rattle.journal.specs.Log.{log, sound, replay, appended}
-use Rattle.journal.specs.Contents.{contents, raw, put_log, remove_log}
-use Rattle.journal.specs.Walk.{Logged, Leaves}
-use Rattle.journal.proofs.Maps.{none_is, length_put_new, length_put_old, length_without}
-use Rattle.journal.proofs.Replays.{ascends_replay}
-use Rattle.journal.proofs.Records.{step_put, step_remove}
-use Rattle.journal.proofs.Appends.{replay_appended}
+use Rattle.journal.specs.Log.{log, sound, joined, live, replay, step, appended}
+use Rattle.journal.specs.Contents.{Contents, contents, with_records, pack_contents}
+use Rattle.journal.specs.Lawful.{ascends_replay}
+use Rattle.journal.specs.Held.{bytes_of, contents_of, Holds}
+use Rattle.journal.specs.Walk.{overlay, Logged}
+use Rattle.journal.proofs.Maps.{none_is, some_long, length_put_new, length_put_old, length_without}
+use Rattle.journal.proofs.Encodings.{step_put, step_remove}
+use Rattle.journal.proofs.Overlays.{length_overlay}
+use Rattle.journal.proofs.Appends.{pushed, used_is, room_packed, replay_appended}
+use Rattle.journal.proofs.Holdings.{logged}
 
--- the test over the used part of the bytes
-pub known : (w used k : ℕ) (bytes : List ℕ) (b : Bool) → b ≡ is_some (find cell_key k (replay (log w (take (used - 0) bytes)))) → is_some (find cell_key k (replay (log w (take used bytes)))) ≡ b
-known w used k bytes b h =
-    let z : used - 0 ≡ used = omega arith in
-    sym (h ∙ ap (λ m. is_some (find cell_key k (replay (log w (take m bytes))))) z)
+-- what a journal asks of a record that is appended, after which it has `count` keys
+pub record Appends (j : Journal) (r : List ℕ) (count : ℕ) : Type 0 where
+  pub wholly : whole j.width r ≡ true
+  pub counted : count ≡ length (step r (replay (contents_of j).records))
+  pub few : count ≤ j.room
+  pub some : 1 ≤ j.room
 
-leaves : (w room used used' count' : ℕ) (bs bs' : List ℕ) (rs : List (List ℕ)) → Logged w used' bs' rs → length bs' ≡ length bs → count' ≡ length (replay rs) → count' ≤ room → Leaves (contents w room used bs) rs (record { used = used'; count = count' }) bs'
-leaves w room used used' count' bs bs' rs l len counted few = record {
-  size = len;
-  within = l.within;
-  is = l.is;
-  sounds = ap (sound w) l.is ∙ l.sounds;
-  zeros = l.zeros;
-  counted = counted ∙ ap (λ xs. length (replay xs)) (sym l.is);
-  few = few;
-}
+-- Room was made for a record: the log is as it was or packed, and the record fits after it.
+pub record Made (j : Journal) (r : List ℕ) (j' : Journal) : Type 0 where
+  pub is : contents_of j' ≡ with_records (contents_of j) (cond (leb (length (joined (contents_of j).records) + length r) (length (bytes_of j))) (contents_of j).records (live (contents_of j).records))
+  pub fits : j'.used + length r ≤ length (bytes_of j')
 
-module _ (w room used : ℕ) (bs : List ℕ) (r : List ℕ) (c : Cell) (back : ReadsPut w r c) (is : r ≡ put_record c) where
-  put_done : (used' count' : ℕ) (bs' : List ℕ) → Logged w used' bs' (appended (length bs) r (log w (take used bs))) → length bs' ≡ length bs → room_for c.key (raw (contents w room used bs)) ≡ true → count' ≡ length (put cell_key c (replay (log w (take used bs)))) → count' ≤ room →
-      (◌≡◌ {A = Result (Unit {0}) ℕ} (Ok tt) (put_answer c (raw (contents w room used bs)))) × Leaves (contents w room used bs) (put_log c (contents w room used bs)) (record { used = used'; count = count' }) bs'
-  put_done used' count' bs' l len there counted few =
-      let rs = log w (take used bs) in
-      let m : replay (appended (length bs) r rs) ≡ put cell_key c (replay rs) = replay_appended (length bs) r rs ∙ step_put w r c (replay rs) back in
-      let a = leaves w room used used' count' bs bs' (appended (length bs) r rs) l len (counted ∙ ap length (sym m)) few in
-      let e : appended (length bs) r rs ≡ put_log c (contents w room used bs) = ap (λ x. appended (length bs) x rs) is ∙ sym (cond-true (room_for c.key (raw (contents w room used bs))) (appended (length bs) (put_record c) rs) rs there) in
-      (sym (cond-true (room_for c.key (raw (contents w room used bs))) (Ok tt) (Err 15) there), subst (λ xs. Leaves (contents w room used bs) xs (record { used = used'; count = count' }) bs') e a)
+module _ (j : Journal) (r : List ℕ) where
+  pub made_same : length r ≤ length (bytes_of j) - j.used → Made j r j
+  made_same le =
+      let rs = (contents_of j).records in
+      let u = used_is j.width j.used (bytes_of j) rs (logged j) in
+      let i = j.within in
+      let t : leb (length (joined (contents_of j).records) + length r) (length (bytes_of j)) ≡ true = le-leb (length (joined rs) + length r) (length (bytes_of j)) (omega arith) in
+      record { is = ap (λ b. with_records (contents_of j) (cond b rs (live rs))) (sym t); fits = omega arith }
 
-  -- over a present key
-  pub put_again : (used' count : ℕ) (bs' : List ℕ) → Logged w used' bs' (appended (length bs) r (log w (take used bs))) → length bs' ≡ length bs → is_some (find cell_key c.key (replay (log w (take used bs)))) ≡ true → count ≡ length (replay (log w (take used bs))) → count ≤ room →
-      (◌≡◌ {A = Result (Unit {0}) ℕ} (Ok tt) (put_answer c (raw (contents w room used bs)))) × Leaves (contents w room used bs) (put_log c (contents w room used bs)) (record { used = used'; count = count }) bs'
-  put_again used' count bs' l len there counted few =
-      let m = replay (log w (take used bs)) in
-      put_done used' count bs' l len (or_left (is_some (find cell_key c.key m)) (ltb (length m) room) there) (counted ∙ sym (length_put_old c m (ascends_replay [] (log w (take used bs)) refl) there)) few
+  pub made_packed : (j' : Journal) → whole j.width r ≡ true → 1 ≤ j.room → length (bytes_of j) - j.used < length r → Holds j' (pack_contents (contents_of j)) → Made j r j'
+  made_packed j' o some lt h =
+      let rs = (contents_of j).records in
+      let u = used_is j.width j.used (bytes_of j) rs (logged j) in
+      let i = j.within in
+      let t : leb (length (joined (contents_of j).records) + length r) (length (bytes_of j)) ≡ false = lt-leb (length (joined rs) + length r) (length (bytes_of j)) (omega arith) in
+      let n = j.counted in
+      let l = j.few in
+      let f = room_packed j.width j.room (length (bytes_of j)) r rs j.whole o (omega arith) (j.fits some) in
+      let v = h.used in
+      let s = ap (λ (x : Contents). x.size) h.contents in
+      record { is = h.contents ∙ ap (λ b. with_records (contents_of j) (cond b rs (live rs))) (sym t); fits = omega arith }
 
-  -- of a new key
-  pub put_new : (used' count : ℕ) (bs' : List ℕ) → Logged w used' bs' (appended (length bs) r (log w (take used bs))) → length bs' ≡ length bs → is_some (find cell_key c.key (replay (log w (take used bs)))) ≡ false → count ≡ length (replay (log w (take used bs))) → count < room →
-      (◌≡◌ {A = Result (Unit {0}) ℕ} (Ok tt) (put_answer c (raw (contents w room used bs)))) × Leaves (contents w room used bs) (put_log c (contents w room used bs)) (record { used = used'; count = count + 1 }) bs'
-  put_new used' count bs' l len gone counted few =
-      let m = replay (log w (take used bs)) in
+-- A record was written after the log.
+pub record Extended (j : Journal) (r : List ℕ) (j' : Journal) (used count : ℕ) (bs : List ℕ) : Type 0 where
+  pub size : length bs ≡ length (bytes_of j')
+  pub within : used ≤ length bs
+  pub sounds : sound j'.width (log j'.width (take used bs)) ≡ true
+  pub zeros : drop used bs ≡ replicate (length bs - used) 0
+  pub counted : count ≡ length (replay (log j'.width (take used bs)))
+  pub few : count ≤ j'.room
+  pub is : contents j'.width j'.room used bs ≡ with_records (contents_of j) (appended (contents_of j).size r (contents_of j).records)
+
+pub extended : (j : Journal) (r : List ℕ) (j' : Journal) (used count : ℕ) (bs : List ℕ) → Made j r j' → whole j.width r ≡ true → count ≡ length (step r (replay (contents_of j).records)) → count ≤ j.room → used ≡ j'.used + length r → bs ≡ overlay j'.used r (bytes_of j') → Extended j r j' used count bs
+unfolding appended
+extended j r j' used count bs m o counted few used_to written =
+    let rs = (contents_of j).records in
+    let o' : whole j'.width r ≡ true = ap (λ (x : Contents). whole x.width r) m.is ∙ o in
+    let F : ℕ → List ℕ → Type 0 = λ n xs. Logged j'.width n xs ((contents_of j').records ++ r ∷ []) in
+    let p = subst (F used) (sym written) (subst (λ n. F n (overlay j'.used r (bytes_of j'))) (sym used_to) (pushed j'.width j'.used r (bytes_of j') (contents_of j').records (logged j') m.fits o')) in
+    let l : log j'.width (take used bs) ≡ appended (length (bytes_of j)) r rs = p.is ∙ ap (λ (x : Contents). x.records ++ r ∷ []) m.is in
+    let s : length bs ≡ length (bytes_of j') = ap length written ∙ length_overlay j'.used r (bytes_of j') m.fits in
+    let n : j'.room ≡ j.room = ap (λ (x : Contents). x.room) m.is in
+    record {
+      size = s;
+      within = p.within;
+      sounds = ap (sound j'.width) p.is ∙ p.sounds;
+      zeros = p.zeros;
+      counted = counted ∙ ap length (sym (ap replay l ∙ replay_appended (length (bytes_of j)) r rs));
+      few = omega arith;
+      is =
+          ap (λ k. with_records (record { width = j'.width; room = j'.room; size = k; records = [] }) (log j'.width (take used bs))) s ∙
+          (ap (λ x. with_records x (log j'.width (take used bs))) m.is ∙ ap (with_records (contents_of j)) l);
+    }
+
+-- what a put leaves, over a present key and of a new one
+module _ (j : Journal) (c : Cell) (r : List ℕ) (is : r ≡ put_record c) (back : ReadsPut j.width (put_record c) c) where
+  put_whole : whole j.width r ≡ true
+  put_whole = ap (whole j.width) is ∙ back.wholly
+
+  put_step : step r (replay (contents_of j).records) ≡ put cell_key c (replay (contents_of j).records)
+  put_step = ap (λ x. step x (replay (contents_of j).records)) is ∙ step_put j.width (put_record c) c (replay (contents_of j).records) back
+
+  pub put_again : is_some (find cell_key c.key (replay (contents_of j).records)) ≡ true → Appends j r j.count
+  put_again there =
+      let m = replay (contents_of j).records in
+      let n = j.counted in
+      let l = j.few in
+      let s = some_long c.key m there in
+      record { wholly = put_whole; counted = j.counted ∙ sym (ap length put_step ∙ length_put_old c m (ascends_replay [] (contents_of j).records refl) there); few = j.few; some = omega arith }
+
+  pub put_new : is_some (find cell_key c.key (replay (contents_of j).records)) ≡ false → j.count < j.room → Appends j r (j.count + 1)
+  put_new gone lt =
+      let m = replay (contents_of j).records in
       let n = length_put_new c m (none_is (find cell_key c.key m) gone) in
-      put_done used' (count + 1) bs' l len (or_right (is_some (find cell_key c.key m)) (ltb (length m) room) (lt-ltb (length m) room (omega arith))) (omega arith) (omega arith)
+      let s = ap length put_step in
+      let k = j.counted in
+      record { wholly = put_whole; counted = omega arith; few = omega arith; some = omega arith }
 
-pub removed : (w room used : ℕ) (bs r : List ℕ) (k : ℕ) → ReadsRemove w r k → r ≡ remove_record k → (used' count : ℕ) (bs' : List ℕ) → Logged w used' bs' (appended (length bs) r (log w (take used bs))) → length bs' ≡ length bs → is_some (find cell_key k (replay (log w (take used bs)))) ≡ true → count ≡ length (replay (log w (take used bs))) → count ≤ room →
-    Leaves (contents w room used bs) (remove_log k (contents w room used bs)) (record { used = used'; count = count - 1 }) bs'
-removed w room used bs r k back is used' count bs' l len there counted few =
-    let rs = log w (take used bs) in
-    let m : replay (appended (length bs) r rs) ≡ without cell_key k (replay rs) = replay_appended (length bs) r rs ∙ step_remove w r k (replay rs) back in
-    let n = length_without k (replay rs) (ascends_replay [] rs refl) there in
-    let lm = ap length m in
-    let a = leaves w room used used' (count - 1) bs bs' (appended (length bs) r rs) l len (omega arith) (omega arith) in
-    let e : appended (length bs) r rs ≡ remove_log k (contents w room used bs) = ap (λ x. appended (length bs) x rs) is ∙ sym (cond-true (is_some (find cell_key k (replay rs))) (appended (length bs) (remove_record k) rs) rs there) in
-    subst (λ xs. Leaves (contents w room used bs) xs (record { used = used'; count = count - 1 }) bs') e a
+-- what a remove of a present key leaves
+module _ (j : Journal) (k : ℕ) (r : List ℕ) (is : r ≡ remove_record k) (back : ReadsRemove j.width (remove_record k) k) (there : is_some (find cell_key k (replay (contents_of j).records)) ≡ true) where
+  pub removed : Appends j r (j.count - 1)
+  removed =
+      let m = replay (contents_of j).records in
+      let t = ap length (ap (λ x. step x m) is ∙ step_remove j.width (remove_record k) k m back) in
+      let n = length_without k m (ascends_replay [] (contents_of j).records refl) there in
+      let s = some_long k m there in
+      let i = j.counted in
+      let l = j.few in
+      record { wholly = ap (whole j.width) is ∙ back.wholly; counted = omega arith; few = omega arith; some = omega arith }

@@ -1,12 +1,12 @@
 -- Bytes cut into records, and records joined to bytes.
-use Rattle.std.proofs.Common.{◌≡◌, ℕ, zero, suc, ◌+◌, ◌-◌, ◌<◌, ◌≤◌, true, List, [], ◌∷◌, ◌++◌, length, get_or, take, drop, sym, refl, ap, ◌∙◌, arith}
-use Rattle.std.proofs.lemmas.List.{length-drop, length-take, take-append-drop, take_at, drop_at, drop-drop, drop_more, drop_all, append_assoc, append-nil}
+use Rattle.std.proofs.Common.{◌≡◌, ℕ, zero, suc, ◌+◌, ◌<◌, ◌≤◌, true, List, [], ◌∷◌, ◌++◌, length, take, drop, Some, None, sym, refl, ap, ◌∙◌, subst, arith}
+use Rattle.std.specs.List.{slice_get}
+use Rattle.std.proofs.lemmas.List.{length-append, length-drop, length-take, take-append-drop, take_at, drop_at, drop-drop, append_assoc, append-nil}
 use Rattle.std.proofs.lemmas.Bool.{and_parts, and_from}
-use Rattle.journal.specs.Forms.{size}
+use Rattle.journal.specs.Forms.{known, size}
 use Rattle.journal.specs.Record.{bit_map, whole}
 use Rattle.journal.specs.Log.{cut, log, joined, sound}
-use Rattle.journal.specs.Walk.{Step}
-use Rattle.journal.proofs.Sizes.{size_pos, whole_size}
+use Rattle.journal.proofs.Sizes.{size_pos, whole_size, whole_known, whole_some}
 
 -- enough is as good as more
 cut_more : (n m w : ℕ) (bs : List ℕ) → length bs ≤ n → length bs ≤ m → cut n w bs ≡ cut m w bs
@@ -31,17 +31,6 @@ log_cons w b bs =
 log_nil : (w : ℕ) → log w [] ≡ []
 unfolding log
 log_nil w = refl
-
--- the records from a place on: one, and those after it
-log_at : (w : ℕ) (bs : List ℕ) (at : ℕ) → at < length bs → log w (drop at bs) ≡ take (size w (get_or bs at 0)) (drop at bs) ∷ log w (drop (at + size w (get_or bs at 0)) bs)
-log_at w bs at lt =
-    let n = size w (get_or bs at 0) in
-    let e = drop_more bs at 0 lt in
-    let a = log_cons w (get_or bs at 0) (drop (at + 1) bs) in
-    ap (log w) e ∙ (a ∙ (ap (λ xs. take n xs ∷ log w (drop n xs)) (sym e) ∙ ap (λ xs. take n (drop at bs) ∷ log w xs) (drop-drop n at bs)))
-
-pub log_end : (w : ℕ) (bs : List ℕ) (at : ℕ) → length bs ≤ at → log w (drop at bs) ≡ []
-log_end w bs at le = ap (log w) (drop_all at bs le) ∙ log_nil w
 
 joined_cut : (n w : ℕ) (bs : List ℕ) → length bs ≤ n → joined (cut n w bs) ≡ bs
 joined_cut zero w [] p = refl
@@ -83,18 +72,51 @@ bit_map_take zero bs p = absurd (omega arith)
 bit_map_take (suc n) [] p = refl
 bit_map_take (suc n) (b ∷ bs) p = refl
 
--- what a walk learns of the record at its place
-pub stepped : (w : ℕ) (bs : List ℕ) (at n : ℕ) → n ≡ size w (get_or bs at 0) → at < length bs → sound w (log w (drop at bs)) ≡ true → Step w bs at (at + n)
-stepped w bs at n is lt h =
-    let p : at + n - at ≡ n = omega arith in
-    let e : log w (drop at bs) ≡ take n (drop at bs) ∷ log w (drop (at + n) bs) = log_at w bs at lt ∙ ap (λ m. take m (drop at bs) ∷ log w (drop (at + m) bs)) (sym is) in
-    let g = and_parts (whole w (take n (drop at bs))) (sound w (log w (drop (at + n) bs))) (sym (ap (sound w) e) ∙ h) in
-    let s = size_pos w (get_or bs at 0) in
-    let f : bit_map (take n (drop at bs)) ≡ get_or bs at 0 = bit_map_take n (drop at bs) (omega arith) ∙ ap bit_map (drop_more bs at 0 lt) in
-    let z : length (take n (drop at bs)) ≡ n = whole_size w (take n (drop at bs)) g.0 ∙ (ap (size w) f ∙ sym is) in
-    let l : length (take n (drop at bs)) ≤ length (drop at bs) = simp length-take (omega arith) in
-    let m = length-drop at bs in
-    record { more = omega arith; within = omega arith; one = rw p g.0; rest = g.1; is = rw p e }
+-- what a walk learns of the record that begins with the first byte
+pub record Begins (w b : ℕ) (bs : List ℕ) : Type 0 where
+  pub begun : known b ≡ true
+  pub within : size w b ≤ length bs
+  pub one : whole w (take (size w b) bs) ≡ true
+  pub rest : sound w (log w (drop (size w b) bs)) ≡ true
+  pub is : log w bs ≡ take (size w b) bs ∷ log w (drop (size w b) bs)
+
+begins_cons : (w b : ℕ) (bs : List ℕ) → sound w (log w (b ∷ bs)) ≡ true → Begins w b (b ∷ bs)
+begins_cons w b bs h =
+    let n = size w b in
+    let e = log_cons w b bs in
+    let g = and_parts (whole w (take n (b ∷ bs))) (sound w (log w (drop n (b ∷ bs)))) (sym (ap (sound w) e) ∙ h) in
+    let f : bit_map (take (size w b) (b ∷ bs)) ≡ b = bit_map_take n (b ∷ bs) (size_pos w b) in
+    let z : length (take (size w b) (b ∷ bs)) ≡ size w b = whole_size w (take n (b ∷ bs)) g.0 ∙ ap (size w) f in
+    let l : length (take (size w b) (b ∷ bs)) ≤ length (b ∷ bs) = simp length-take (omega arith) in
+    record { begun = ap known (sym f) ∙ whole_known w (take n (b ∷ bs)) g.0; within = omega arith; one = g.0; rest = g.1; is = e }
+
+pub begins : (w b : ℕ) (bs : List ℕ) → Some b ≡ slice_get bs 0 → sound w (log w bs) ≡ true → Begins w b bs
+begins w b [] is h = cc
+begins w b (x ∷ bs) is h = let e : x ≡ b = cc in subst (λ y. Begins w y (x ∷ bs)) e (begins_cons w x bs h)
+
+-- where no byte is left, no record is
+pub ended : (w : ℕ) (bs : List ℕ) → None ≡ slice_get bs 0 → log w bs ≡ []
+ended w [] is = log_nil w
+ended w (b ∷ bs) is = cc
+
+-- the record at a place, and those after it
+pub record First (w : ℕ) (bs : List ℕ) (at : ℕ) (r : List ℕ) : Type 0 where
+  pub more : 0 < length r
+  pub within : at + length r ≤ length bs
+  pub here : take (length r) (drop at bs) ≡ r
+  pub rest : sound w (log w (drop (at + length r) bs)) ≡ true
+  pub is : log w (drop at bs) ≡ r ∷ log w (drop (at + length r) bs)
+
+pub first : (w : ℕ) (bs : List ℕ) (at : ℕ) (r : List ℕ) (rs : List (List ℕ)) → at ≤ length bs → sound w (log w (drop at bs)) ≡ true → log w (drop at bs) ≡ r ∷ rs → First w bs at r
+first w bs at r rs le h e =
+    let g = and_parts (whole w r) (sound w rs) (ap (sound w) (sym e) ∙ h) in
+    let j : drop at bs ≡ r ++ joined rs = sym (joined_log w (drop at bs)) ∙ ap joined e in
+    let d : drop (at + length r) bs ≡ joined rs = sym (drop-drop (length r) at bs) ∙ (ap (drop (length r)) j ∙ drop_at r (joined rs) (length r) refl) in
+    let i : log w (drop (at + length r) bs) ≡ rs = ap (log w) d ∙ log_joined w rs g.1 in
+    let n = ap length j in
+    let a = length-append r (joined rs) in
+    let k = length-drop at bs in
+    record { more = whole_some w r g.0; within = omega arith; here = ap (take (length r)) j ∙ take_at r (joined rs) (length r) refl; rest = ap (sound w) i ∙ g.1; is = e ∙ ap (λ xs. r ∷ xs) (sym i) }
 
 -- a whole record after whole records is one more
 pub log_push : (w : ℕ) (bs r : List ℕ) → sound w (log w bs) ≡ true → whole w r ≡ true → log w (bs ++ r) ≡ log w bs ++ r ∷ []

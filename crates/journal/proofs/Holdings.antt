@@ -1,27 +1,25 @@
 -- What a journal holds, and what it means as a provider, from its contents and its invariant.
-use Rattle.std.proofs.Common.{◌≡◌, ℕ, ◌+◌, ◌-◌, ◌*◌, ◌/◌, ◌<◌, ◌≤◌, true, false, eqb, leb, List, [], ◌++◌, map, length, take, drop, Ok, Err, Option, Result, sym, refl, ap, ◌∙◌, ⊎_elim, mul-le-mul_right, add-mul, one-mul, div-mul-le_self, arith}
+use Rattle.std.proofs.Common.{◌≡◌, ℕ, ◌+◌, ◌*◌, ◌/◌, ◌<◌, ◌≤◌, true, false, eqb, leb, List, ◌++◌, map, length, take, drop, Option, sym, refl, ap, ◌∙◌, mul-le-mul_right, add-mul, one-mul, div-mul-le_self, arith}
 use Rattle.std.specs.Option.{option_map}
 use Rattle.std.proofs.lemmas.Nat.{le-div}
 use Rattle.std.proofs.lemmas.List.{length-map}
-use Rattle.std.proofs.lemmas.Bool.{cases_Bool, cond-true, cond-false, eq-eqb, ne_eqb, le-leb, lt-leb}
+use Rattle.std.proofs.lemmas.Bool.{cond-true, cond-false, eq-eqb, le-leb}
 use Rattle.values.specs.Rank.{version_of}
 use Rattle.values.specs.Sheets.{write_sheet}
 use Rattle.values.specs.declared.version.Version.{Version}
-use Rattle.stores.specs.Keyed.{ascending, find}
+use Rattle.stores.specs.Keyed.{find}
 use Rattle.stores.specs.Provider.{Cell, Provider, cell_key, keys}
-use Rattle.stores.specs.Operations.{put_answer, put_after, remove_after, get_answer, list_answer, list_sheet}
-use Rattle.journal.specs.declared.found.Extent.{Extent}
+use Rattle.stores.specs.Operations.{put_answer, put_after, remove_after, get_answer, list_sheet}
 use Rattle.journal.specs.declared.journal.Journal.{Journal}
 use Rattle.journal.specs.Record.{put_record, remove_record}
 use Rattle.journal.specs.Codec.{ReadsPut, ReadsRemove}
 use Rattle.journal.specs.Log.{log, joined, filled, replay, live}
 use Rattle.journal.specs.Contents.{Contents, contents, with_records, raw, serves, put_log, remove_log, put_contents, remove_contents, pack_contents}
-use Rattle.journal.specs.Walk.{Logged, Leaves}
+use Rattle.journal.specs.Walk.{Logged}
 use Rattle.journal.specs.Normal.{normal_cell, provider_of}
 use Rattle.journal.specs.Held.{bytes_of, contents_of, Holds}
-use Rattle.journal.proofs.Replays.{ascends_replay}
 use Rattle.journal.proofs.Appends.{used_is, bytes_are}
-use Rattle.journal.proofs.Normals.{ranks_normal, find_normal, provider_served, provider_other, provider_put, provider_remove, answer_put}
+use Rattle.journal.proofs.Normals.{ranks_normal, find_normal, provider_served, provider_put, provider_remove, answer_put}
 
 pub logged : (j : Journal) → Logged j.width j.used (bytes_of j) (log j.width (take j.used (bytes_of j)))
 logged j = record { within = j.within; is = refl; sounds = j.whole; zeros = j.zeros }
@@ -35,12 +33,6 @@ held j s e =
       used = sym (used_is j.width j.used (bytes_of j) _ l) ∙ ap (λ (x : Contents). length (joined x.records)) e;
     }
 
--- the contents that an operation on the bytes leaves
-pub contents_left : (w room used : ℕ) (bs bs' : List ℕ) (rs : List (List ℕ)) (e : Extent) → Leaves (contents w room used bs) rs e bs' → contents w room e.used bs' ≡ with_records (contents w room used bs) rs
-contents_left w room used bs bs' rs e l =
-    let f : ℕ → List (List ℕ) → Contents = λ n x. record { width = w; room = room; size = n; records = x } in
-    ap (λ n. f n (log w (take e.used bs'))) l.size ∙ ap (f (length bs)) l.is
-
 pub contents_packed : (w room used used' : ℕ) (bs bs' : List ℕ) → Logged w used' bs' (live (log w (take used bs))) → length bs' ≡ length bs → contents w room used' bs' ≡ pack_contents (contents w room used bs)
 contents_packed w room used used' bs bs' l n =
     let f : ℕ → List (List ℕ) → Contents = λ k x. record { width = w; room = room; size = k; records = x } in
@@ -49,93 +41,55 @@ contents_packed w room used used' bs bs' l n =
 -- a journal as a provider of values of its own width, and of another
 
 module _ (wide : ℕ) (f : List ℕ → List ℕ) (j : Journal) where
-  own : j.width ≡ wide → serves wide (contents_of j) ≡ true
-  own e = eq-eqb j.width wide e
-
-  other : (j.width ≡ wide → ⊥) → serves wide (contents_of j) ≡ false
-  other e = ne_eqb j.width wide e
-
-  pub count_is : j.width ≡ wide → j.count ≡ length (provider_of wide f (contents_of j)).cells
+  pub count_is : serves wide (contents_of j) ≡ true → j.count ≡ length (provider_of wide f (contents_of j)).cells
   count_is e =
       let m = replay (contents_of j).records in
-      j.counted ∙ (sym (length-map m (normal_cell f)) ∙ sym (ap (λ (p : Provider). length p.cells) (provider_served wide f (contents_of j) (own e))))
+      j.counted ∙ (sym (length-map m (normal_cell f)) ∙ sym (ap (λ (p : Provider). length p.cells) (provider_served wide f (contents_of j) e)))
 
-  pub few_cells : length (provider_of wide f (contents_of j)).cells ≤ (provider_of wide f (contents_of j)).capacity
-  few_cells =
-      let m = replay (contents_of j).records in
-      let n = length-map m (normal_cell f) in
-      let k = j.counted in
-      let l = j.few in
-      ⊎_elim (λ t. rw t (omega arith)) (λ t. rw t (omega arith)) (cases_Bool (serves wide (contents_of j)))
+  pub got : (k : ℕ) (o : Option Cell) → serves wide (contents_of j) ≡ true → o ≡ find cell_key k (replay (contents_of j).records) → option_map (λ (c : Cell). c.pair) (option_map (normal_cell f) o) ≡ get_answer k (provider_of wide f (contents_of j))
+  got k o e is =
+      ap (λ x. option_map (λ (c : Cell). c.pair) (option_map (normal_cell f) x)) is ∙ (ap (option_map (λ (c : Cell). c.pair)) (sym (find_normal f k (replay (contents_of j).records))) ∙ sym (ap (get_answer k) (provider_served wide f (contents_of j) e)))
 
-  pub sorted_cells : ascending (keys (provider_of wide f (contents_of j))) ≡ true
-  sorted_cells =
-      ⊎_elim
-      (λ t. ap (λ p. ascending (keys p)) (provider_served wide f (contents_of j) t) ∙ (ap ascending (ranks_normal f (replay (contents_of j).records)) ∙ ascends_replay [] (contents_of j).records refl))
-      (λ t. ap (λ p. ascending (keys p)) (provider_other wide f (contents_of j) t))
-      (cases_Bool (serves wide (contents_of j)))
-
-  pub got : (w k : ℕ) (o : Option Cell) → j.width ≡ w → w ≡ wide → o ≡ find cell_key k (replay (log w (take (j.used - 0) (bytes_of j)))) → option_map (λ (c : Cell). c.pair) (option_map (normal_cell f) o) ≡ get_answer k (provider_of wide f (contents_of j))
-  got w k o e d is =
-      let z : j.used - 0 ≡ j.used = omega arith in
-      let i = is ∙ (ap (λ n. find cell_key k (replay (log w (take n (bytes_of j))))) z ∙ ap (λ n. find cell_key k (replay (log n (take j.used (bytes_of j))))) (sym e)) in
-      ap (λ x. option_map (λ (c : Cell). c.pair) (option_map (normal_cell f) x)) i ∙ (ap (option_map (λ (c : Cell). c.pair)) (sym (find_normal f k (replay (contents_of j).records))) ∙ sym (ap (get_answer k) (provider_served wide f (contents_of j) (own (e ∙ d)))))
-
-  pub list_refused : (sheet : List Version) → j.width ≡ wide → length sheet < j.count → (◌≡◌ {A = Result ℕ ℕ} (Err 16) (list_answer (provider_of wide f (contents_of j)) sheet)) × (sheet ≡ list_sheet (provider_of wide f (contents_of j)) sheet)
-  list_refused sheet e lt =
+  pub list_done : (sheet sheet' : List Version) → serves wide (contents_of j) ≡ true → j.count ≤ length sheet → sheet' ≡ map version_of (map cell_key (replay (contents_of j).records)) ++ drop (length (replay (contents_of j).records)) sheet → sheet' ≡ list_sheet (provider_of wide f (contents_of j)) sheet
+  list_done sheet sheet' e le is =
       let P = provider_of wide f (contents_of j) in
+      let m = replay (contents_of j).records in
       let n = count_is e in
-      let t : leb (length P.cells) (length sheet) ≡ false = lt-leb (length P.cells) (length sheet) (omega arith) in
-      (sym (cond-false (leb (length P.cells) (length sheet)) (Ok (length P.cells)) (Err 16) t), sym (cond-false (leb (length P.cells) (length sheet)) (map version_of (keys P) ++ drop (length P.cells) sheet) sheet t))
-
-  pub list_done : (w : ℕ) (sheet sheet' : List Version) → j.width ≡ w → w ≡ wide → j.count ≤ length sheet → sheet' ≡ map version_of (map cell_key (replay (log w (take (j.used - 0) (bytes_of j))))) ++ drop (length (replay (log w (take (j.used - 0) (bytes_of j))))) sheet →
-      (◌≡◌ {A = Result ℕ ℕ} (Ok j.count) (list_answer (provider_of wide f (contents_of j)) sheet)) × (sheet' ≡ list_sheet (provider_of wide f (contents_of j)) sheet)
-  list_done w sheet sheet' e d le is =
-      let P = provider_of wide f (contents_of j) in
-      let m = replay (contents_of j).records in
-      let z : j.used - 0 ≡ j.used = omega arith in
-      let F : List Cell → List Version = λ x. map version_of (map cell_key x) ++ drop (length x) sheet in
-      let n = count_is (e ∙ d) in
       let t : leb (length P.cells) (length sheet) ≡ true = le-leb (length P.cells) (length sheet) (omega arith) in
-      let a : sheet' ≡ F m = is ∙ (ap (λ i. F (replay (log w (take i (bytes_of j))))) z ∙ ap (λ i. F (replay (log i (take j.used (bytes_of j))))) (sym e)) in
-      let k : keys P ≡ map cell_key m = ap keys (provider_served wide f (contents_of j) (own (e ∙ d))) ∙ ranks_normal f m in
-      let l : length P.cells ≡ length m = sym n ∙ j.counted in (
-        ap Ok n ∙ sym (cond-true (leb (length P.cells) (length sheet)) (Ok (length P.cells)) (Err 16) t),
-        a ∙ (ap (λ ks. map version_of ks ++ drop (length m) sheet) (sym k) ∙ (ap (λ i. map version_of (keys P) ++ drop i sheet) (sym l) ∙ sym (cond-true (leb (length P.cells) (length sheet)) (map version_of (keys P) ++ drop (length P.cells) sheet) sheet t))),
-      )
+      let k : keys P ≡ map cell_key m = ap keys (provider_served wide f (contents_of j) e) ∙ ranks_normal f m in
+      let l : length P.cells ≡ length m = sym n ∙ j.counted in
+      is ∙ (ap (λ ks. map version_of ks ++ drop (length m) sheet) (sym k) ∙ (ap (λ i. map version_of (keys P) ++ drop i sheet) (sym l) ∙ sym (cond-true (leb (length P.cells) (length sheet)) (map version_of (keys P) ++ drop (length P.cells) sheet) sheet t)))
 
   -- values of another width change nothing
-  pub put_other : (c : Cell) → (j.width ≡ wide → ⊥) → (◌≡◌ {A = Result (Unit {0}) ℕ} (Err 15) (put_answer c (provider_of wide f (contents_of j)))) × (provider_of wide f (contents_of j) ≡ put_after c (provider_of wide f (contents_of j))) × Holds j (put_contents wide c (contents_of j))
+  pub put_other : (c : Cell) → serves wide (contents_of j) ≡ false → Holds j (put_contents wide c (contents_of j))
   put_other c e =
       let s = contents_of j in
-      let p = provider_other wide f s (other e) in
-      (sym (ap (put_answer c) p), p ∙ sym (ap (put_after c) p), held j (put_contents wide c s) (ap (with_records s) (sym (cond-false (serves wide s) (put_log c s) s.records (other e)))))
+      held j (put_contents wide c s) (ap (with_records s) (sym (cond-false (serves wide s) (put_log c s) s.records e)))
 
-  pub remove_other : (k : ℕ) → (j.width ≡ wide → ⊥) → (provider_of wide f (contents_of j) ≡ remove_after k (provider_of wide f (contents_of j))) × Holds j (remove_contents wide k (contents_of j))
+  pub remove_other : (k : ℕ) → serves wide (contents_of j) ≡ false → Holds j (remove_contents wide k (contents_of j))
   remove_other k e =
       let s = contents_of j in
-      let p = provider_other wide f s (other e) in
-      (p ∙ sym (ap (remove_after k) p), held j (remove_contents wide k s) (ap (with_records s) (sym (cond-false (serves wide s) (remove_log k s) s.records (other e)))))
+      held j (remove_contents wide k s) (ap (with_records s) (sym (cond-false (serves wide s) (remove_log k s) s.records e)))
 
 -- values of the journal's own width
 
 module _ (wide : ℕ) (f : List ℕ → List ℕ) (j j' : Journal) where
-  pub put_own : (w : ℕ) (c d : Cell) → j.width ≡ wide → d ≡ c → ReadsPut w (put_record c) c → f c.pair.value ≡ c.pair.value → contents_of j' ≡ with_records (contents_of j) (put_log d (contents_of j)) →
+  pub put_own : (w : ℕ) (c d : Cell) → serves wide (contents_of j) ≡ true → d ≡ c → ReadsPut w (put_record c) c → f c.pair.value ≡ c.pair.value → contents_of j' ≡ with_records (contents_of j) (put_log d (contents_of j)) →
       (provider_of wide f (contents_of j') ≡ put_after c (provider_of wide f (contents_of j))) × Holds j' (put_contents wide c (contents_of j))
   put_own w c d e same back kept left =
       let s = contents_of j in
-      let a : contents_of j' ≡ put_contents wide c (contents_of j) = left ∙ (ap (λ x. with_records s (put_log x s)) same ∙ ap (with_records s) (sym (cond-true (serves wide s) (put_log c s) s.records (own wide f j e)))) in
+      let a : contents_of j' ≡ put_contents wide c (contents_of j) = left ∙ (ap (λ x. with_records s (put_log x s)) same ∙ ap (with_records s) (sym (cond-true (serves wide s) (put_log c s) s.records e))) in
       (ap (provider_of wide f) a ∙ provider_put wide f s w c back kept, held j' (put_contents wide c s) a)
 
-  pub remove_own : (w k : ℕ) → j.width ≡ wide → ReadsRemove w (remove_record k) k → contents_of j' ≡ with_records (contents_of j) (remove_log k (contents_of j)) →
+  pub remove_own : (w k : ℕ) → serves wide (contents_of j) ≡ true → ReadsRemove w (remove_record k) k → contents_of j' ≡ with_records (contents_of j) (remove_log k (contents_of j)) →
       (provider_of wide f (contents_of j') ≡ remove_after k (provider_of wide f (contents_of j))) × Holds j' (remove_contents wide k (contents_of j))
   remove_own w k e back left =
       let s = contents_of j in
-      let a : contents_of j' ≡ remove_contents wide k (contents_of j) = left ∙ ap (with_records s) (sym (cond-true (serves wide s) (remove_log k s) s.records (own wide f j e))) in
+      let a : contents_of j' ≡ remove_contents wide k (contents_of j) = left ∙ ap (with_records s) (sym (cond-true (serves wide s) (remove_log k s) s.records e)) in
       (ap (provider_of wide f) a ∙ provider_remove wide f s w k back, held j' (remove_contents wide k s) a)
 
-pub answer_own : (wide : ℕ) (f : List ℕ → List ℕ) (j : Journal) (c d : Cell) → j.width ≡ wide → d ≡ c → put_answer d (raw (contents_of j)) ≡ put_answer c (provider_of wide f (contents_of j))
-answer_own wide f j c d e same = ap (λ x. put_answer x (raw (contents_of j))) same ∙ sym (answer_put wide f (contents_of j) c (own wide f j e))
+pub answer_own : (wide : ℕ) (f : List ℕ → List ℕ) (j : Journal) (c d : Cell) → serves wide (contents_of j) ≡ true → d ≡ c → put_answer d (raw (contents_of j)) ≡ put_answer c (provider_of wide f (contents_of j))
+answer_own wide f j c d e same = ap (λ x. put_answer x (raw (contents_of j))) same ∙ sym (answer_put wide f (contents_of j) c e)
 
 -- a value that was written into a sheet of its width
 pub written_is : (wide : ℕ) (code sheet sheet' : List ℕ) → length sheet ≡ wide → sheet' ≡ write_sheet wide code sheet → sheet' ≡ code

@@ -8,7 +8,7 @@ mod Sixes
 mod Writes
 mod Packs
 mod Appends
-mod Records
+mod Encodings
 mod Changes
 mod Normals
 mod Listings

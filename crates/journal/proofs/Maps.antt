@@ -2,15 +2,13 @@
 use Rattle.std.proofs.Common.{◌≡◌, ℕ, suc, ◌+◌, ◌<◌, ◌≤◌, true, false, cond, eqb, ltb, List, [], ◌∷◌, map, length, is_some, Some, None, Option, sym, refl, ap, ◌∙◌, ⊎_elim, arith}
 use Rattle.std.proofs.lemmas.Bool.{cases_Bool, both_ways, cond-true, cond-false, cond_both, and_parts, eqb-true, eq-eqb, ltb-true, ltb-false, lt-ltb}
 use Rattle.std.proofs.lemmas.Bool.Decides.{nat_tests}
+use Rattle.std.proofs.lemmas.Option.{none-some}
 use Rattle.stores.specs.Keyed.{headed, ascending, find, put, without}
 use Rattle.stores.specs.Provider.{Cell, cell_key}
 use Rattle.stores.proofs.KeyedLists.{find_below, without_absent, length_put}
 
 abbrev pub ranks : List Cell → List ℕ
 ranks m = map cell_key m
-
-pub some_none : (c : Cell) → ◌≡◌ {A = Option Cell} (Some c) None → ⊥
-some_none c p = let z : ◌≡◌ {A = ℕ} 0 1 = cc in omega arith
 
 pub none_is : (o : Option Cell) → is_some o ≡ false → o ≡ None
 none_is None h = refl
@@ -67,11 +65,11 @@ tail_ascends c cs h = (and_parts (headed c.key (ranks cs)) (ascending (ranks cs)
 
 pub same_maps : (m n : List Cell) → ascending (ranks m) ≡ true → ascending (ranks n) ≡ true → ((k : ℕ) → find cell_key k m ≡ find cell_key k n) → m ≡ n
 same_maps [] [] p q h = refl
-same_maps [] (d ∷ ds) p q h = absurd (some_none d (sym (find_hit d.key d ds refl) ∙ sym (h d.key)))
-same_maps (c ∷ cs) [] p q h = absurd (some_none c (sym (find_hit c.key c cs refl) ∙ h c.key))
+same_maps [] (d ∷ ds) p q h = absurd (none-some d (sym (sym (find_hit d.key d ds refl) ∙ sym (h d.key))))
+same_maps (c ∷ cs) [] p q h = absurd (none-some c (sym (sym (find_hit c.key c cs refl) ∙ h c.key)))
 same_maps (c ∷ cs) (d ∷ ds) p q h =
     ⊎_elim
-    (λ e. absurd (some_none c (sym (find_hit c.key c cs refl) ∙ (h c.key ∙ before_first c.key d ds q (ltb-true c.key d.key e)))))
+    (λ e. absurd (none-some c (sym (sym (find_hit c.key c cs refl) ∙ (h c.key ∙ before_first c.key d ds q (ltb-true c.key d.key e))))))
     (λ e.
     ⊎_elim
     (λ s.
@@ -86,7 +84,7 @@ same_maps (c ∷ cs) (d ∷ ds) p q h =
     ap (λ x. x ∷ cs) b ∙ ap (λ xs. d ∷ xs) t)
     (λ s.
     let f = ltb-false c.key d.key e in
-    absurd (some_none d (sym (find_hit d.key d ds refl) ∙ (sym (h d.key) ∙ before_first d.key c cs p (grind (arith, nat_tests))))))
+    absurd (none-some d (sym (sym (find_hit d.key d ds refl) ∙ (sym (h d.key) ∙ before_first d.key c cs p (grind (arith, nat_tests)))))))
     (cases_Bool (eqb c.key d.key)))
     (cases_Bool (ltb c.key d.key))
 
@@ -99,7 +97,7 @@ length_put_new n (c ∷ cs) h =
     (λ p. ap suc (length_put_new n cs (sym (find_past n.key c cs (grind (arith, nat_tests))) ∙ h)))
     (λ p.
     cond_both (eqb c.key n.key) cs (c ∷ cs) (λ m. suc (length m) ≡ suc (length (c ∷ cs)))
-    (λ s. absurd (some_none c (sym (find_hit n.key c cs (eqb-true c.key n.key s)) ∙ h)))
+    (λ s. absurd (none-some c (sym (sym (find_hit n.key c cs (eqb-true c.key n.key s)) ∙ h))))
     (λ s. refl))
 
 pub length_put_old : (n : Cell) (m : List Cell) → ascending (ranks m) ≡ true → is_some (find cell_key n.key m) ≡ true → length (put cell_key n m) ≡ length m

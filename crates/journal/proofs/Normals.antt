@@ -14,7 +14,7 @@ use Rattle.journal.specs.Log.{replay, appended}
 use Rattle.journal.specs.Contents.{Contents, raw, serves, put_log, remove_log, put_contents, remove_contents, pack_contents}
 use Rattle.journal.specs.Normal.{normal, normal_cell, provider_of}
 use Rattle.journal.proofs.Maps.{ranks, none_is}
-use Rattle.journal.proofs.Records.{step_put, step_remove}
+use Rattle.journal.proofs.Encodings.{step_put, step_remove}
 use Rattle.journal.proofs.Replays.{replay_live}
 use Rattle.journal.proofs.Appends.{replay_appended}
 

@@ -1,7 +1,8 @@
 -- Bytes laid over others.
-use Rattle.std.proofs.Common.{◌≡◌, ℕ, suc, ◌+◌, ◌-◌, ◌<◌, ◌≤◌, List, [], ◌∷◌, ◌++◌, length, get_or, take, drop, set, replicate, sym, ap, ◌∙◌, arith}
+use Rattle.std.proofs.Common.{◌≡◌, ℕ, suc, ◌+◌, ◌-◌, ◌<◌, ◌≤◌, List, [], ◌∷◌, ◌++◌, length, take, drop, set, replicate, sym, ap, ◌∙◌, arith}
 use borrow.Rule.Slice.PartMut.{put_mid}
-use Rattle.std.proofs.lemmas.List.{length-take-le, length-append, length-drop, take-append-drop, take_at, drop_at, drop-drop, append_assoc, set_split, get_or-drop, take_more, take-take, length-take, take-append-le, drop_all, append-nil}
+use lib.Seq.{paste}
+use Rattle.std.proofs.lemmas.List.{length-take-le, length-append, length-drop, take-append-drop, take_at, drop_at, drop-drop, append_assoc, set_split, take-take, length-take, take-append-le, drop_all, append-nil}
 use Rattle.journal.specs.Walk.{overlay}
 
 pub overlay_none : {A : Type 0} (at : ℕ) (bs : List A) → overlay at [] bs ≡ bs
@@ -71,31 +72,19 @@ overlay_cons at x ys bs fits =
     let e : at + 1 + length ys ≡ at + length (x ∷ ys) = omega arith in
     overlay_set at L x (omega arith) ∙ (ap (λ xs. xs ++ (x ∷ drop (at + 1) L)) t ∙ (ap (λ xs. take at bs ++ (x ∷ xs)) d ∙ ap (λ m. take at bs ++ (x ∷ (ys ++ drop m bs))) e))
 
--- one byte more was moved down
-pub moved : (old es : List ℕ) (from to n i : ℕ) → to ≤ from → from + n ≤ length old → i < n → es ≡ overlay to (take i (drop from old)) old → set es (to + i) (get_or es (from + i) 0) ≡ overlay to (take (i + 1) (drop from old)) old
-moved old es from to n i le fits lt is =
-    let xs = take i (drop from old) in
-    let l : length (take i (drop from old)) ≡ i = simp (length-take, length-drop) (omega arith) in
-    let ld = length-drop from old in
-    let f : to + length (take i (drop from old)) ≤ length old = omega arith in
-    let L = overlay to (take i (drop from old)) old in
-    let ll : length (overlay to (take i (drop from old)) old) ≡ length old = length_overlay to xs old f in
-    let e : to + i + (from - to) ≡ from + i = omega arith in
-    let d : drop (to + i) (overlay to (take i (drop from old)) old) ≡ drop (to + i) old = drop_overlay to xs old f (to + i) (omega arith) in
-    let g : get_or (overlay to (take i (drop from old)) old) (from + i) 0 ≡ get_or old (from + i) 0 =
-    ap (λ j. get_or L j 0) (sym e) ∙ (sym (get_or-drop (to + i) L (from - to) 0) ∙ (ap (λ ys. get_or ys (from - to) 0) d ∙ (get_or-drop (to + i) old (from - to) 0 ∙ ap (λ j. get_or old j 0) e))) in
-    let b = get_or old (from + i) 0 in
-    let t : take (i + 1) (drop from old) ≡ take i (drop from old) ++ get_or old (from + i) 0 ∷ [] = take_more (drop from old) i 0 (omega arith) ∙ ap (λ x. take i (drop from old) ++ x ∷ []) (get_or-drop from old i 0) in
-    ap (λ ys. set ys (to + i) (get_or ys (from + i) 0)) is ∙ (ap (set L (to + i)) g ∙ (overlay_set (to + i) L b (omega arith) ∙ (overlay_overlay to xs old f (b ∷ []) (to + i) (omega arith) (omega arith) ∙ ap (λ ys. overlay to ys old) (sym t))))
+-- a part of a list, laid over another
+pub overlay_paste : {A : Type 0} (at n : ℕ) (ys bs : List A) → n ≤ length ys → paste bs at ys n ≡ overlay at (take n ys) bs
+unfolding overlay
+overlay_paste at n ys bs le = append_assoc (take at bs) (take n ys) (drop (at + n) bs) ∙ ap (λ m. take at bs ++ (take n ys ++ drop (at + m) bs)) (sym (length-take-le n ys le))
 
 pub zeroes : (bs new fill P : List ℕ) (used to : ℕ) → used ≤ length bs → length new ≡ used → take to new ≡ P → to ≤ used →
-    fill ≡ replicate (length (take (length (new ++ drop (used - 0) bs) - to) (drop to (new ++ drop (used - 0) bs)))) 0 →
-    put_mid to (length (new ++ drop (used - 0) bs) - to) (new ++ drop (used - 0) bs) fill ≡ P ++ replicate (length bs - length P) 0
+    fill ≡ replicate (length (take (length (new ++ drop used bs) - to) (drop to (new ++ drop used bs)))) 0 →
+    put_mid to (length (new ++ drop used bs) - to) (new ++ drop used bs) fill ≡ P ++ replicate (length bs - length P) 0
 zeroes bs new fill P used to le ln is tu fl =
-    let X = new ++ drop (used - 0) bs in
+    let X = new ++ drop used bs in
     let lp : length P ≡ to = sym (ap length is) ∙ length-take-le to new (omega arith) in
-    let t : take to (new ++ drop (used - 0) bs) ≡ P = take-append-le to new (drop (used - 0) bs) (omega arith) ∙ is in
-    let lx : length (new ++ drop (used - 0) bs) ≡ length bs = let a = length-append new (drop (used - 0) bs) in let b = length-drop (used - 0) bs in omega arith in
+    let t : take to (new ++ drop used bs) ≡ P = take-append-le to new (drop used bs) (omega arith) ∙ is in
+    let lx : length (new ++ drop used bs) ≡ length bs = let a = length-append new (drop used bs) in let b = length-drop used bs in omega arith in
     let d : drop (length X - to) (drop to X) ≡ [] = drop-drop (length X - to) to X ∙ drop_all (to + (length X - to)) X (omega arith) in
     let e : length (take (length X - to) (drop to X)) ≡ length bs - length P = simp (length-take, length-drop) (omega arith) in
     ap (λ ys. ys ++ (fill ++ drop (length X - to) (drop to X))) t ∙ (ap (λ ys. P ++ (fill ++ ys)) d ∙ (ap (λ ys. P ++ ys) (append-nil fill ∙ fl) ∙ ap (λ m. P ++ replicate m 0) e))

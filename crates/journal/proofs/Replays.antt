@@ -1,15 +1,15 @@
 -- What the records of a log leave, and that packing keeps it.
 use Rattle.std.proofs.Common.{◌≡◌, ℕ, suc, ◌+◌, ◌*◌, ◌≤◌, true, false, cond, eqb, List, [], ◌∷◌, ◌++◌, length, Some, None, Option, sym, refl, ap, ◌∙◌, subst, ⊎_elim, suc-mul, arith}
 use Rattle.std.proofs.lemmas.List.{length-append}
-use Rattle.std.proofs.lemmas.Bool.{cases_Bool, both_ways, cond-true, cond-false, cond_both, and_parts, and_from, eqb-true, eq-eqb}
-use Rattle.stores.specs.Keyed.{ascending, find, put, without}
+use Rattle.std.proofs.lemmas.Bool.{cases_Bool, or_right, both_ways, cond-true, cond-false, cond_both, and_parts, and_from, eqb-true, eq-eqb}
+use Rattle.stores.specs.Keyed.{find, put, without}
 use Rattle.stores.specs.Provider.{Cell, cell_key}
 use Rattle.journal.specs.Record.{bit_map, record_key, record_cell, is_put, whole}
 use Rattle.journal.specs.Log.{joined, sound, step, replay_on, replay, mentions, live}
+use Rattle.journal.specs.Lawful.{ascends_replay}
 use Rattle.journal.specs.Walk.{seen, look_on}
 use Rattle.journal.proofs.Sizes.{size_le, whole_size}
-use Rattle.stores.proofs.KeyedLists.{put_ascending, without_ascending}
-use Rattle.journal.proofs.Maps.{ranks, find_put, find_without, same_maps, length_put_new}
+use Rattle.journal.proofs.Maps.{find_put, find_without, same_maps, length_put_new}
 
 find_step : (k : ℕ) (r : List ℕ) (m : List Cell) → find cell_key k (step r m) ≡ cond (eqb (record_key r) k) (seen r) (find cell_key k m)
 find_step k r m =
@@ -24,13 +24,6 @@ find_replay_on k m (r ∷ rs) = find_replay_on k (step r m) rs ∙ ap (λ o. loo
 
 pub find_replay : (k : ℕ) (rs : List (List ℕ)) → find cell_key k (replay rs) ≡ look_on None k rs
 find_replay k rs = find_replay_on k [] rs
-
-ascends_step : (r : List ℕ) (m : List Cell) → ascending (ranks m) ≡ true → ascending (ranks (step r m)) ≡ true
-ascends_step r m h = cond_both (is_put r) (put cell_key (record_cell r) m) (without cell_key (record_key r) m) (λ n. ascending (ranks n) ≡ true) (λ _. put_ascending cell_key (record_cell r) m h) (λ _. without_ascending cell_key (record_key r) m h)
-
-pub ascends_replay : (m : List Cell) (rs : List (List ℕ)) → ascending (ranks m) ≡ true → ascending (ranks (replay_on m rs)) ≡ true
-ascends_replay m [] h = h
-ascends_replay m (r ∷ rs) h = ascends_replay (step r m) rs (ascends_step r m h)
 
 pub replay_push : (m : List Cell) (rs : List (List ℕ)) (r : List ℕ) → replay_on m (rs ++ r ∷ []) ≡ step r (replay_on m rs)
 replay_push m [] r = refl
@@ -68,10 +61,10 @@ look_any o p k (r ∷ rs) h =
 pub live_kept : (r : List ℕ) (rs : List (List ℕ)) → is_put r ≡ true → mentions (record_key r) rs ≡ false → live (r ∷ rs) ≡ r ∷ live rs
 live_kept r rs p m = cond-true (is_put r) _ (live rs) p ∙ cond-false (mentions (record_key r) rs) (live rs) (r ∷ live rs) m
 
-live_old : (r : List ℕ) (rs : List (List ℕ)) → is_put r ≡ true → mentions (record_key r) rs ≡ true → live (r ∷ rs) ≡ live rs
+pub live_old : (r : List ℕ) (rs : List (List ℕ)) → is_put r ≡ true → mentions (record_key r) rs ≡ true → live (r ∷ rs) ≡ live rs
 live_old r rs p m = cond-true (is_put r) _ (live rs) p ∙ cond-true (mentions (record_key r) rs) (live rs) (r ∷ live rs) m
 
-live_gone : (r : List ℕ) (rs : List (List ℕ)) → is_put r ≡ false → live (r ∷ rs) ≡ live rs
+pub live_gone : (r : List ℕ) (rs : List (List ℕ)) → is_put r ≡ false → live (r ∷ rs) ≡ live rs
 live_gone r rs p = cond-false (is_put r) _ (live rs) p
 
 look_hit : (o : Option Cell) (k : ℕ) (r : List ℕ) (rs : List (List ℕ)) → eqb (record_key r) k ≡ true → is_put r ≡ true → look_on o k (r ∷ rs) ≡ look_on (Some (record_cell r)) k rs
@@ -113,7 +106,7 @@ replay_live rs = same_maps (replay (live rs)) (replay rs) (ascends_replay [] (li
 count_on : (m : List Cell) (rs : List (List ℕ)) → ((k : ℕ) → mentions k rs ≡ true → find cell_key k m ≡ None) → length (replay_on m (live rs)) ≡ length m + length (live rs)
 count_on m [] h = omega arith
 count_on m (r ∷ rs) h =
-    let h' : (k : ℕ) → mentions k rs ≡ true → find cell_key k m ≡ None = λ k t. h k (cond_both (eqb (record_key r) k) true (mentions k rs) (λ b. b ≡ true) (λ _. refl) (λ _. t)) in
+    let h' : (k : ℕ) → mentions k rs ≡ true → find cell_key k m ≡ None = λ k t. h k (or_right (eqb (record_key r) k) (mentions k rs) t) in
     let i = count_on m rs h' in
     cond_both (is_put r) (cond (mentions (record_key r) rs) (live rs) (r ∷ live rs)) (live rs) (λ xs. length (replay_on m xs) ≡ length m + length xs)
     (λ p.

@@ -1,11 +1,12 @@
 -- A record is written field by field.
-use Rattle.std.proofs.Common.{◌≡◌, ℕ, ◌+◌, ◌≤◌, Bool, true, List, [], ◌∷◌, ◌++◌, length, set, sym, ap, ◌∙◌, arith}
+use Rattle.std.proofs.Common.{◌≡◌, ℕ, ◌+◌, ◌≤◌, Bool, true, false, cond, List, [], ◌∷◌, ◌++◌, length, set, sym, refl, ap, ◌∙◌, arith}
 use borrow.Rule.Slice.PartMut.{put_mid}
 use Rattle.std.proofs.lemmas.List.{length-append, append_assoc}
 use Rattle.stores.specs.Provider.{Cell}
 use Rattle.journal.specs.Forms.{form}
 use Rattle.journal.specs.Record.{six_bytes, field, encoded}
 use Rattle.journal.specs.Walk.{overlay}
+use Rattle.journal.proofs.Sizes.{lengths}
 use Rattle.journal.proofs.Overlays.{overlay_set, overlay_overlay, overlay_put_mid}
 
 pub field_written : (at k : ℕ) (stands : Bool) (ys zs bs : List ℕ) → stands ≡ true → zs ≡ ys → k ≡ length ys → put_mid at k bs zs ≡ overlay at (field stands ys) bs
@@ -20,6 +21,24 @@ unfolding encoded
 encoded_length b c =
     let x = length-append (field (form b).key (six_bytes c.key)) (field (form b).version (six_bytes c.pair.version) ++ field (form b).value c.pair.value) in
     let y = length-append (field (form b).version (six_bytes c.pair.version)) (field (form b).value c.pair.value) in
+    omega arith
+
+length_six : (k : ℕ) → length (six_bytes k) ≡ 6
+unfolding six_bytes
+length_six k = refl
+
+length_field : (s : Bool) (bs : List ℕ) → length (field s bs) ≡ cond s (length bs) 0
+length_field true bs = refl
+length_field false bs = refl
+
+-- how long a record is that is written under a bit map
+pub encoded_long : (b : ℕ) (c : Cell) → length (encoded b c) ≡ 1 + (form b).length + cond (form b).value (length c.pair.value) 0
+encoded_long b c =
+    let l = encoded_length b c in
+    let k : length (field (form b).key (six_bytes c.key)) ≡ cond (form b).key 6 0 = length_field (form b).key (six_bytes c.key) ∙ ap (λ n. cond (form b).key n 0) (length_six c.key) in
+    let v : length (field (form b).version (six_bytes c.pair.version)) ≡ cond (form b).version 6 0 = length_field (form b).version (six_bytes c.pair.version) ∙ ap (λ n. cond (form b).version n 0) (length_six c.pair.version) in
+    let x = length_field (form b).value c.pair.value in
+    let s = lengths b in
     omega arith
 
 pub written : (at : ℕ) (bs : List ℕ) (b : ℕ) (c : Cell) (mid to : ℕ) (b₂ b₃ b₄ : List ℕ) → at + length (encoded b c) ≤ length bs →

@@ -5,7 +5,7 @@ use Rattle.journal.specs.Contents.{Contents, contents}
 
 -- the bytes that a journal was lent
 abbrev pub bytes_of : Journal → List ℕ
-bytes_of j = j.region.bytes.now
+bytes_of j = j.bytes.now
 
 -- what it has in them
 abbrev pub contents_of : Journal → Contents

@@ -6,3 +6,4 @@ pub mod Contents
 pub mod Walk
 pub mod Normal
 pub mod Held
+pub mod Lawful

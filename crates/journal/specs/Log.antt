@@ -1,4 +1,5 @@
-use Rattle.std.specs.Prelude.{ℕ, zero, suc, ◌+◌, ◌-◌, Bool, true, false, cond, ◌&&◌, List, [], ◌∷◌, ◌++◌, length, take, drop, replicate, ◌==◌, nat_le}
+use Rattle.std.specs.Prelude.{ℕ, zero, suc, ◌+◌, ◌-◌, Bool, cond, List, [], ◌∷◌, ◌++◌, length, take, drop, replicate, ◌==◌, nat_le}
+use Rattle.std.specs.List.{list_all, list_any}
 use Rattle.stores.specs.Keyed.{put, without}
 use Rattle.stores.specs.Provider.{Cell, cell_key}
 use Rattle.journal.specs.Forms.{size}
@@ -26,8 +27,7 @@ filled n rs = joined rs ++ replicate (n - length (joined rs)) 0
 
 -- A log is well formed if every record is whole.
 abbrev pub sound : ℕ → List (List ℕ) → Bool
-sound w [] = true
-sound w (r ∷ rs) = whole w r && sound w rs
+sound w rs = list_all (whole w) rs
 
 -- replay: the map that records leave, one after the other
 abbrev pub step : List ℕ → List Cell → List Cell
@@ -42,8 +42,7 @@ replay rs = replay_on [] rs
 
 -- whether a record has the key
 abbrev pub mentions : ℕ → List (List ℕ) → Bool
-mentions k [] = false
-mentions k (r ∷ rs) = cond (record_key r == k) true (mentions k rs)
+mentions k rs = list_any (λ r. record_key r == k) rs
 
 -- packing: the live records, in their order. A record is live if it is a put and no later record has its key.
 abbrev pub live : List (List ℕ) → List (List ℕ)

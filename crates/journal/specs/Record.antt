@@ -1,7 +1,7 @@
 use Rattle.std.specs.Prelude.{ℕ, ◌+◌, ◌*◌, ◌/◌, ◌%◌, Bool, cond, ◌&&◌, List, [], ◌∷◌, ◌++◌, length, take, drop, ◌==◌, slice_index}
 use Rattle.values.specs.Little.{little, unlittle}
 use Rattle.stores.specs.Provider.{Cell}
-use Rattle.journal.specs.Forms.{form, size}
+use Rattle.journal.specs.Forms.{known, form, size}
 
 -- A record is the list of its bytes: the bit map, then the fields that its form names. Keys and versions are their ranks.
 
@@ -59,4 +59,4 @@ record_cell r = record { key = record_key r; pair = record { version = record_ve
 
 -- whether a record begins with a bit map that is one, and has all its fields and no more
 unfoldable pub whole : ℕ → List ℕ → Bool
-whole w r = (form (bit_map r)).valid && length r == size w (bit_map r)
+whole w r = known (bit_map r) && length r == size w (bit_map r)

@@ -1,80 +1,62 @@
-ghost use Rattle.std.specs.Prelude.{◌≡◌, ◌≤◌};
-ghost use Rattle.journal.specs.Forms.{form, forms, size};
+ghost use Rattle.std.specs.Prelude.{◌≡◌, ◌≤◌, true};
+ghost use Rattle.journal.specs.Forms.{form, known, size};
 
 use crate::form::Form;
 
-const UNUSED: Form = Form {
-    valid: false,
-    key: false,
-    version: false,
-    value: false,
-    length: 0,
-};
-
-// The forms of records by bit map, for the writer and the reader alike.
-const FORMS: [Form; 8] = [
-    Form {
-        valid: true,
+// The forms of records by bit map, for the writer and the reader alike. No record begins with 2 or 3.
+const FORMS: [Option<Form>; 8] = [
+    Some(Form {
         key: false,
         version: false,
         value: false,
         length: 0,
-    },
-    Form {
-        valid: true,
+    }),
+    Some(Form {
         key: true,
         version: false,
         value: false,
         length: 6,
-    },
-    UNUSED,
-    UNUSED,
-    Form {
-        valid: true,
+    }),
+    None,
+    None,
+    Some(Form {
         key: false,
         version: false,
         value: true,
         length: 0,
-    },
-    Form {
-        valid: true,
+    }),
+    Some(Form {
         key: true,
         version: false,
         value: true,
         length: 6,
-    },
-    Form {
-        valid: true,
+    }),
+    Some(Form {
         key: false,
         version: true,
         value: true,
         length: 6,
-    },
-    Form {
-        valid: true,
+    }),
+    Some(Form {
         key: true,
         version: true,
         value: true,
         length: 12,
-    },
+    }),
 ];
 
-fn table() -> [Form; 8]
-    ensures { result ≡ forms }
-{
-    FORMS
-}
-
+// The form of a record that begins with the bit map.
 pub(crate) fn form_of(map: u8) -> Form
+    requires { known map ≡ true }
     ensures { result ≡ form map }
 {
-    let all = table();
-    if map < 8 { all[map as usize] } else { UNUSED }
+    FORMS[map as usize].unwrap()
 }
 
 // How long the record is that begins with the bit map, where values are `w` bytes wide.
 pub(crate) fn size_of(map: u8, w: usize) -> usize
-    requires { w ≤ 64 }
+    requires narrow { w ≤ 64 }
+    requires known { known map ≡ true }
     ensures { result ≡ size w map }
 {
     let f = form_of(map);

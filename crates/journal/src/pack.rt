@@ -1,23 +1,12 @@
 // Packing: the live records move to the front, in their order, and the bytes after them become zero.
-ghost use Rattle.std.specs.Prelude.{◌≡◌, ◌+◌, ◌≤◌, true, length, take, drop};
+ghost use Rattle.std.specs.Prelude.{◌≡◌, ◌+◌, ◌≤◌, true, length, take};
 ghost use Rattle.journal.specs.Log.{log, sound, live};
-ghost use Rattle.journal.specs.Walk.{overlay, packed, Logged};
+ghost use Rattle.journal.specs.Walk.{packed, Logged};
 
-use crate::walk::{end_of, is_put, key_in};
-
-// Moves `n` bytes down.
-fn move_down(bytes: &mut [u8], from: usize, to: usize, n: usize)
-    requires order { to ≤ from }
-    requires within { from + n ≤ length bytes.old }
-    ensures { bytes.new ≡ overlay to (take n (drop from bytes.old)) bytes.old }
-{
-    for i in 0..n {
-        bytes[to + i] = bytes[from + i];
-    }
-}
+use crate::records::Records;
 
 // Moves the live records to the front, in their order, and answers where they end. A record is live if it is a put and
-// no later record has its key.
+// no later record has its key. (The walk goes by place, and not over one iterator, since it writes the bytes it walks over.)
 fn compact(bytes: &mut [u8], w: usize) -> usize
     requires narrow { w ≤ 64 }
     requires whole { sound w (log w bytes.old) ≡ true }
@@ -26,22 +15,19 @@ fn compact(bytes: &mut [u8], w: usize) -> usize
 {
     let mut to = 0;
     let mut at = 0;
-    'records: while at < bytes.len() {
+    'records: while let Some(record) = Records::new(&bytes[at..], w).next() {
         let from = at;
-        at = end_of(bytes, from, w);
-        if !is_put(&bytes[from..at], w) {
+        at += record.bytes.len();
+        if !record.is_put() {
             continue 'records;
         }
-        let key = key_in(&bytes[from..at], w);
-        let mut later = at;
-        while later < bytes.len() {
-            let next = end_of(bytes, later, w);
-            if key_in(&bytes[later..next], w).same(key) {
+        let key = record.key();
+        for later in Records::new(&bytes[at..], w) {
+            if later.has_key(key) {
                 continue 'records;
             }
-            later = next;
         }
-        move_down(bytes, from, to, at - from);
+        bytes.copy_within(from..at, to);
         to += at - from;
     }
     to
@@ -53,8 +39,7 @@ pub(crate) fn pack(bytes: &mut [u8], used: usize, w: usize) -> usize
     requires log { Logged w used bytes.old (log w (take used bytes.old)) }
     ensures { Logged w result bytes.new (live (log w (take used bytes.old))) }
 {
-    let to = compact(&mut bytes[0..used], w);
-    let n = bytes.len();
-    bytes[to..n].fill(0);
+    let to = compact(&mut bytes[..used], w);
+    bytes[to..].fill(0);
     to
 }

@@ -1,13 +1,15 @@
-ghost use Rattle.std.specs.Prelude.{◌≡◌, length};
-ghost use Rattle.journal.specs.Log.{joined};
-ghost use Rattle.journal.specs.Held.{contents_of};
+ghost use Rattle.std.specs.Prelude.{◌≡◌, true, length};
+ghost use Rattle.journal.specs.Log.{joined, sound};
+ghost use Rattle.journal.specs.Held.{contents_of, Holds};
 
 use crate::journal::Journal;
 
 impl<'a> Journal<'a> {
-    // How many bytes the log takes up.
+    // How many bytes the log takes up. All bytes are its records and zeros after them, and every record is whole.
     pub fn used(&self) -> usize
-        ensures { result ≡ length (joined (contents_of self.now).records) }
+        ensures is { result ≡ length (joined (contents_of self.now).records) }
+        ensures log { Holds self.now (contents_of self.now) }
+        ensures sounds { sound self.now.width (contents_of self.now).records ≡ true }
     {
         self.used
     }

@@ -2,7 +2,7 @@ use Rattle.std.proofs.Common.{length, refl, arith}
 use Rattle.values.specs.Rank.{rank}
 use Rattle.stores.specs.Provider.{cell}
 use Rattle.journal.proofs.Sixes.{rank_fits}
-use Rattle.journal.proofs.Records.{put_back, remove_back}
+use Rattle.journal.proofs.Encodings.{put_back, remove_back}
 use Rattle.journal.proofs.codec.codec_lawful.Goals as goal
 
 pub returns : goal.returns

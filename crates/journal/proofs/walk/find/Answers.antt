@@ -1,14 +1,19 @@
-use Rattle.std.proofs.Common.{eqb, ap, ◌∙◌, arith}
+use Rattle.std.proofs.Common.{sym, ap, ◌∙◌, subst}
 use Rattle.values.specs.Rank.{rank}
-use Rattle.journal.proofs.Finds.{found_more, found_all}
+use Rattle.journal.specs.Log.{log}
+use Rattle.journal.specs.Walk.{look_on}
+use Rattle.journal.proofs.Replays.{find_replay}
+use Rattle.journal.proofs.Finds.{Finding, cell_of, found_here}
 use Rattle.journal.proofs.walk.find.Goals as goal
 
-pub loop-at-preserved-then-same : goal.loop-at-preserved-then-same
-loop-at-preserved-then-same c =
-    found_more c.args.w c.args.bytes.now c.loop-at.at c.end_of-next.result c.end_of-next.ensures (rank c.args.key) c.loop-at.found c.seen_in-found.result _ (c.if-same.ensures ∙ ap (λ k. eqb k (rank c.args.key)) c.key_in.ensures) c.seen_in-found.ensures.says c.seen_in-found.ensures.within c.loop-at.invariant.2
+pub loop-record-preserved-then-has_key : goal.loop-record-preserved-then-has_key
+loop-record-preserved-then-has_key c =
+    let w = c.args.records.width in
+    let F = Finding w (rank c.args.key) (log w c.args.records.bytes.now) (log c.next.new.self.width c.next.new.self.bytes.now) in
+    subst F (sym c.then_some-found.ensures) (found_here _ _ _ _ _ c.in-Some.record _ c.in-Some.ensures.steps c.loop-record.invariant (sym c.has_key.ensures ∙ c.if-has_key.true) c.is_put.result c.is_put.ensures)
 
-pub returns : goal.returns
-returns c = record {
-  seen = found_all c.args.w c.args.bytes.now c.loop-at.at (rank c.args.key) _ (omega arith) c.loop-at.invariant.2;
-  within = c.loop-at.invariant.3;
-}
+pub returns-clause-seen : goal.returns-clause-seen
+returns-clause-seen c =
+    let k = rank c.args.key in
+    let all = log c.args.records.width c.args.records.bytes.now in
+    sym (ap (look_on (cell_of c.loop-record.found) k) c.in-None.ensures.steps.0) ∙ (c.loop-record.invariant.looks ∙ sym (find_replay k all))

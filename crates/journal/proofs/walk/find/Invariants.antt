@@ -1,14 +1,7 @@
-use Rattle.std.proofs.Common.{◌≡◌, ◌-◌, ◌≤◌, true, length, drop, None}
 use Rattle.values.specs.Rank.{rank}
-use Rattle.journal.specs.Log.{log, sound}
-use Rattle.journal.specs.Walk.{look_on, found_in, FoundFits}
+use Rattle.journal.specs.Log.{log}
+use Rattle.journal.proofs.Finds.{Finding}
 use Rattle.journal.proofs.walk.find.Given as goal
 
-abbrev pub invariant-loop-at : goal.invariant-loop-at
-invariant-loop-at l =
-    (l.at ≤ length l.bytes) × (sound l.w (log l.w (drop l.at l.bytes)) ≡ true) ×
-    (look_on (found_in l.w l.bytes (rank l.key) l.found) (rank l.key) (log l.w (drop l.at l.bytes)) ≡ look_on None (rank l.key) (log l.w l.bytes)) ×
-    FoundFits l.w (length l.bytes) l.found
-
-abbrev pub decreases-loop-at : goal.decreases-loop-at
-decreases-loop-at l = length l.initial.bytes - l.at
+abbrev pub invariant-loop-record : goal.invariant-loop-record
+invariant-loop-record l = Finding l.fn.records.width (rank l.key) (log l.fn.records.width l.fn.records.bytes.now) (log l.record-iterator.width l.record-iterator.bytes.now) l.found

@@ -1,8 +1,13 @@
-use Rattle.std.proofs.Common.{sym, ap, ◌∙◌, arith}
+use Rattle.std.proofs.Common.{refl, eqb, rules}
+use Rattle.std.proofs.lemmas.Iterator.Consumers.{YieldsList-from_first}
+use Rattle.std.proofs.lemmas.Iterator.Search.{any_from_yields_List}
+use borrow.Author.Tests.{tests}
 use Rattle.values.specs.Rank.{rank}
-use Rattle.journal.specs.Log.{mentions}
-use Rattle.journal.proofs.Cuts.{log_end}
+use Rattle.journal.specs.declared.record.Record.{Record}
+use Rattle.journal.specs.declared.records.Records.{Records}
+use Rattle.journal.specs.Record.{record_key}
+use Rattle.journal.specs.Log.{log}
 use Rattle.journal.proofs.walk.is_mentioned.Goals as goal
 
 pub returns : goal.returns
-returns c = sym (ap (mentions (rank c.args.key)) (log_end c.args.w c.args.bytes.now c.loop-at.at (omega arith))) ∙ c.loop-at.invariant.2
+returns c = any_from_yields_List (λ r. eqb (record_key r) (rank c.args.key)) c.any.new.self _ c.any.result c.any.ensures.ran (YieldsList-from_first (λ (r : Record). r.bytes.now) (λ (s : Records). log s.width s.bytes.now) _ refl) (λ x b q h. search (rules, tests))

@@ -1,21 +1,30 @@
-use Rattle.std.proofs.Common.{◌≡◌, ℕ, ◌+◌, ◌-◌, List, take, drop, Some, None, Option, ap, ◌∙◌, arith}
+use Rattle.std.proofs.Common.{List, ℕ, Some, None, Option, length, sym, ap, ◌∙◌}
+use Rattle.std.proofs.lemmas.Bool.{eqb-true}
+use Rattle.stores.specs.Keyed.{find}
+use Rattle.stores.specs.Provider.{Pair, cell_key}
+use Rattle.stores.specs.Operations.{pair_means}
+use Rattle.std.specs.Option.{option_map}
 use Rattle.values.specs.Rank.{rank}
-use Rattle.stores.specs.Provider.{Pair}
+use Rattle.journal.specs.Record.{record_version}
+use Rattle.journal.specs.Log.{replay}
 use Rattle.journal.specs.Normal.{normal}
 use Rattle.journal.proofs.Holdings.{got}
 use Rattle.journal.proofs.driver.JournalStore.get.Goals as goal
 
-pub returns-in-Some : goal.returns-in-Some
-returns-in-Some g c =
+pub returns-in_err-record : goal.returns-in_err-record
+returns-in_err-record g c =
     let f = normal g.V.Kind.decoded g.V.Kind.coded (g.V.Kind.code g.V.Kind.nothing) in
-    let from = c.in-Some.found.from in
-    let B = take (c.args.self.now.used - 0) c.args.self.now.region.bytes.now in
-    let p : c.in-Some.found.from + c.size-w.result - c.in-Some.found.from ≡ c.size-w.result = omega arith in
-    let h : List ℕ → Option Pair = λ v. Some (record { version = rank c.in-Some.found.version; value = v }) in
-    ap h (c.restore.ensures ∙ ap (λ m. f (take m (drop from B))) p) ∙
-    got g.V.Kind.wide f c.args.self.now c.size-w.result (rank c.args.key) _ c.if-self-w.false c.size-w.ensures c.in-Some.ensures.seen
+    ap (option_map (pair_means g.V.Kind.code)) c.from_residual.ensures ∙
+    got g.V.Kind.WIDTH f c.args.self.now (rank c.args.key) None (sym c.serves.ensures ∙ c.if-not-serves.false) (c.in_err-record.ensures.seen ∙ ap (λ rs. find cell_key (rank c.args.key) (replay rs)) c.records.ensures.log)
 
-pub returns-in-None : goal.returns-in-None
-returns-in-None g c =
+pub restore-requires : goal.restore-requires
+restore-requires g c =
+    ap length c.value.ensures ∙ (c.in_ok-record.ensures.wide ∙ (c.records.ensures.width ∙ eqb-true c.args.self.now.width g.V.Kind.WIDTH (sym c.serves.ensures ∙ c.if-not-serves.false)))
+
+pub returns : goal.returns
+returns g c =
     let f = normal g.V.Kind.decoded g.V.Kind.coded (g.V.Kind.code g.V.Kind.nothing) in
-    got g.V.Kind.wide f c.args.self.now c.size-w.result (rank c.args.key) None c.if-self-w.false c.size-w.ensures c.in-None.ensures.seen
+    let pair : ℕ → List ℕ → Option Pair = λ n v. Some (record { version = n; value = v }) in
+    ap (λ n. pair n (g.V.Kind.code c.restore.result)) c.version.ensures ∙
+    (ap (pair (record_version c.in_ok-record.record.bytes.now)) (c.restore.ensures ∙ ap f c.value.ensures) ∙
+    got g.V.Kind.WIDTH f c.args.self.now (rank c.args.key) _ (sym c.serves.ensures ∙ c.if-not-serves.false) (c.in_ok-record.ensures.seen ∙ ap (λ rs. find cell_key (rank c.args.key) (replay rs)) c.records.ensures.log))

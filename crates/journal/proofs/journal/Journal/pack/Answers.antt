@@ -9,9 +9,9 @@ use Rattle.journal.proofs.journal.Journal.pack.Goals as goal
 
 pub invariant_of-self : goal.invariant_of-self
 invariant_of-self c =
-    let l = c.pack-self.ensures.after in
-    let n = c.pack-self.ensures.size in
-    let rs = log c.args.self.now.width (take c.args.self.now.used c.args.self.now.region.bytes.now) in
+    let l = c.pack-self.ensures in
+    let n = c.pack-self.auto.bytes in
+    let rs = log c.args.self.now.width (take c.args.self.now.used c.args.self.now.bytes.now) in
     record {
       narrow = c.args.self.now.narrow;
       within = l.within;
@@ -24,5 +24,5 @@ invariant_of-self c =
 
 pub returns : goal.returns
 returns c =
-    let e = contents_packed c.args.self.now.width c.args.self.now.room c.args.self.now.used c.pack-self.result c.args.self.now.region.bytes.now c.pack-self.new.self.bytes.now c.pack-self.ensures.after c.pack-self.ensures.size in
+    let e = contents_packed c.args.self.now.width c.args.self.now.room c.args.self.now.used c.pack-self.result c.args.self.now.bytes.now c.pack-self.new.bytes c.pack-self.ensures c.pack-self.auto.bytes in
     record { log = held _ _ e; same = λ wide f. ap (provider_of wide f) e ∙ provider_pack wide f (contents_of c.args.self.now) }

@@ -1,8 +1,10 @@
-use Rattle.std.proofs.Common.{sym}
-use Rattle.journal.specs.Held.{bytes_of}
-use Rattle.journal.proofs.Appends.{used_is}
-use Rattle.journal.proofs.Holdings.{logged}
+use Rattle.std.proofs.Common.{refl}
+use Rattle.journal.specs.Held.{contents_of}
+use Rattle.journal.proofs.Holdings.{held}
 use Rattle.journal.proofs.journal.Journal.used.Goals as goal
 
-pub returns : goal.returns
-returns c = sym (used_is c.args.self.now.width c.args.self.now.used (bytes_of c.args.self.now) _ (logged c.args.self.now))
+pub returns-clause-is : goal.returns-clause-is
+returns-clause-is c = (held c.args.self.now (contents_of c.args.self.now) refl).used
+
+pub returns-clause-log : goal.returns-clause-log
+returns-clause-log c = held c.args.self.now (contents_of c.args.self.now) refl

@@ -1,5 +1,5 @@
 -- Membership, what holds of each element, and what holds of each two.
-use Rattle.std.proofs.Common.{◌≡◌, ℕ, zero, suc, ◌<◌, ◌≤◌, cond, eqb, ◌≢◌, ◌⊎◌, List, [], ◌∷◌, ◌++◌, length, Some, None, Option, sym, refl, ap, ◌∙◌, subst, inl, inr, arith}
+use Rattle.std.proofs.Common.{◌≡◌, ℕ, zero, suc, ◌<◌, ◌≤◌, cond, eqb, ◌≢◌, ◌⊎◌, List, [], ◌∷◌, ◌++◌, length, sym, refl, ap, ◌∙◌, subst, inl, inr, arith}
 use Rattle.std.specs.List.{AllByRecursion}
 use Rattle.std.proofs.ByRecursion.{All-push}
 use Rattle.std.proofs.lemmas.Bool.{cond_both, eqb-true, eqb-false, cases_eq}
@@ -61,10 +61,3 @@ in_upto x (suc n) h = elim (cases_eq x n) [ inl e ↦ inl e | inr d ↦ inr (in_
 pub all_and : {X : Type 0} (P Q : X → Type 0) (l : List X) → AllByRecursion P l → AllByRecursion Q l → AllByRecursion (λ x. P x × Q x) l
 all_and P Q [] h k = tt
 all_and P Q (x ∷ l) h k = ((h.0, k.0), all_and P Q l h.1 k.1)
-
-abbrev IsNone : {X : Type 0} → Option X → Type 0
-IsNone None = Unit {0}
-IsNone (Some x) = ⊥
-
-pub none_some : {X : Type 0} {x : X} → None ≡ Some x → ⊥
-none_some e = subst IsNone e tt

@@ -3,10 +3,11 @@ use Rattle.std.proofs.Common.{◌≡◌, ℕ, zero, suc, ◌+◌, ◌<◌, ◌�
 use Rattle.std.specs.List.{AllByRecursion}
 use Rattle.std.proofs.ByRecursion.{All-weaker}
 use Rattle.std.proofs.lemmas.Bool.{both_ways}
+use Rattle.std.proofs.lemmas.Option.{none-some}
 use Rattle.protocol.specs.History.{Operation}
 use Rattle.protocol.specs.Law.{EachTwo, AnyByRecursion, VersionsRise, InTime, ShowLatest, NotOld, NoneBefore}
 use Rattle.protocol.specs.Phases.{count}
-use Rattle.protocol.proofs.Lists.{all_and, none_some}
+use Rattle.protocol.proofs.Lists.{all_and}
 use Rattle.protocol.proofs.Model.{Code, idle, free}
 use Rattle.protocol.proofs.ModelSteps.{ModelState, Step}
 use Rattle.protocol.proofs.Trace.{Trace, trace_step, tick}
@@ -87,11 +88,11 @@ first_inv n seats n0 = record {
   lows = λ s. omega arith;
   begun = λ s. omega (arith, all_true n);
   risen = omega (arith, all_true n);
-  fresh = λ v x e. absurd (none_some e);
+  fresh = λ v x e. absurd (none-some _ e);
 }
 
 first_trace_inv : TraceInv (λ v. None) 0 (λ s. 0) first_trace
-first_trace_inv = record { pairs = tt; times = tt; sinces = λ s. omega arith; oks = tt; there = λ v x e. absurd (none_some e); highests = tt; lows = λ s. tt; begins = tt; plains = tt }
+first_trace_inv = record { pairs = tt; times = tt; sinces = λ s. omega arith; oks = tt; there = λ v x e. absurd (none-some _ e); highests = tt; lows = λ s. tt; begins = tt; plains = tt }
 
 pub both : (n seats : ℕ) → 0 < n → seats ≤ 65534 → {st : ModelState} {L : Trace} → Run n seats st L → Invariant n seats st × TraceInv st.given st.highest st.low L
 both n seats n0 small opened = (first_inv n seats n0, first_trace_inv)

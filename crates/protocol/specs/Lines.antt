@@ -22,7 +22,7 @@ pub record Progress : Type 0 where
   pub largest : ℕ
   pub found : Option Pair
 
--- what a line's record means; the request and the answer of a free line's record are open
+-- what a line's record means
 pub record Line : Type 0 where
   pub state : LineState
   pub progress : Progress

@@ -43,21 +43,21 @@ reply_means code (rep.Keys l) = req.keys_are (listed l)
 reply_means code (rep.Got o) = req.got (option_map (pair_means code) o)
 reply_means code rep.Done = req.accepted
 
--- A provider's refusal is kept as the line's answer.
+-- A provider's refusal is an answer, too.
 abbrev pub answer_means : {V : Type 0} → (V → List ℕ) → Result (Reply V) Refusal → req.Reply
 answer_means code (Ok r) = reply_means code r
 answer_means code (Err e) = req.refused_by (refusal_number e)
 
-abbrev pub transit_means : {V : Type 0} → (V → List ℕ) → Transit → Line V → lin.LineState
-transit_means code tra.Free l = lin.free
-transit_means code tra.Sent l = lin.sent l.stale (request_means code l.request)
-transit_means code tra.Answered l = lin.answered l.stale (answer_means code l.answer)
+abbrev pub transit_means : {V : Type 0} → (V → List ℕ) → Transit V → lin.LineState
+transit_means code tra.Free = lin.free
+transit_means code (tra.Sent b q) = lin.sent b (request_means code q)
+transit_means code (tra.Answered b r) = lin.answered b (answer_means code r)
 
 abbrev pub progress_means : {V : Type 0} → (V → List ℕ) → Line V → lin.Progress
 progress_means code l = record { stage = l.stage; done = l.done; mark = rank l.mark; older = listed l.older; largest = rank l.largest; found = option_map (pair_means code) l.found }
 
 abbrev pub line_means : {V : Type 0} → (V → List ℕ) → Line V → lin.Line
-line_means code l = record { state = transit_means code l.transit l; progress = progress_means code l }
+line_means code l = record { state = transit_means code l.transit; progress = progress_means code l }
 
 -- what a call and its answer mean
 abbrev pub call_means : {V : Type 0} → (V → List ℕ) → Call V → ans.Call

@@ -1,8 +1,9 @@
 use crate::answer::Answer;
 use values::refusal::Refusal;
 
-// A call of a relay, with the numbers of a seat and a provider, from 1 on. Any numbers may be given.
-#[derive(Clone, Copy)]
+// A call of a relay, with the numbers of a seat and a provider, from 1 on. Any numbers may be given. (Whether a read is
+// settled is a yes or no, as in the protocol's calls.)
+#[derive(Clone, Copy, PartialEq, Eq, Debug)]
 pub enum Call<V> {
     // a seat, and the value that it writes
     BeginWrite(usize, V),
@@ -18,7 +19,7 @@ pub enum Call<V> {
 }
 
 // A call, and what it answered.
-#[derive(Clone, Copy)]
+#[derive(Clone, Copy, PartialEq, Eq, Debug)]
 pub struct Exchange<V> {
     pub call: Call<V>,
     pub answer: Result<Answer<V>, Refusal>,

@@ -1,4 +1,4 @@
-ghost use Rattle.std.specs.Prelude.{◌≡◌, ◌||◌, [], map, take, drop, ◌==◌, slice_index};
+ghost use Rattle.std.specs.Prelude.{◌≡◌, ◌+◌, ◌<◌, ◌≤◌, ◌||◌, [], ◌∷◌, ◌++◌, map, length, take, drop, ◌==◌, slice_index};
 ghost use Rattle.values.specs.Rank.{rank};
 ghost use Rattle.protocol.specs.Moves.{largest_key, keys_but};
 ghost use Rattle.protocol.specs.Stages.{any_left};
@@ -11,12 +11,13 @@ use values::version::Key;
 fn skips(key: Key, other: Key) -> bool
     ensures { result ≡ (rank key == 0 || rank key == rank other) }
 {
-    key.same(Key::STANDING) || key.same(other)
+    key == Key::STANDING || key == other
 }
 
 impl KeyList {
     pub fn empty() -> KeyList
-        ensures { listed result ≡ [] }
+        ensures keys { listed result ≡ [] }
+        ensures places { (result.from ≡ 0) × (result.end ≡ 0) }
     {
         KeyList {
             keys: [Key::STANDING; 32],
@@ -36,24 +37,27 @@ impl KeyList {
         }
     }
 
+    // The keys of the list, in order. A place past the 32 keys counts as their end.
+    pub fn as_slice(&self) -> &[Key]
+        ensures ranks { map rank result.now ≡ listed self.now }
+        ensures few { length result.now ≤ 32 }
+    {
+        let keys = &self.keys[..self.end.min(self.keys.len())];
+        &keys[self.from.min(keys.len())..]
+    }
+
     // Whether there is a key.
     pub fn any(&self) -> bool
         ensures { result ≡ any_left (listed self.now) }
     {
-        let keys: &[Key] = &self.keys;
-        self.from < self.end.min(keys.len())
+        !self.as_slice().is_empty()
     }
 
     // The first key, or the standing key where there is none.
     pub fn first(&self) -> Key
         ensures { rank result ≡ slice_index (listed self.now) 0 }
     {
-        let keys: &[Key] = &self.keys;
-        if self.from < self.end.min(keys.len()) {
-            keys[self.from]
-        } else {
-            Key::STANDING
-        }
+        self.as_slice().first().copied().unwrap_or(Key::STANDING)
     }
 
     // The keys after the first.
@@ -74,27 +78,35 @@ impl KeyList {
     pub fn largest(&self) -> Key
         ensures { rank result ≡ largest_key (listed self.now) }
     {
-        let keys: &[Key] = &self.keys;
         let mut best = Key::STANDING;
-        for i in self.from..self.end.min(keys.len()) {
-            best = best.later(keys[i]);
+        for key in self.as_slice() {
+            best = best.later(*key);
         }
         best
+    }
+
+    // Adds a key, where there is a place for it.
+    fn push(&mut self, key: Key)
+        requires order { self.old.from ≤ self.old.end }
+        requires room { self.old.end < 32 }
+        ensures from { self.new.from ≡ self.old.from }
+        ensures end { self.new.end ≡ self.old.end + 1 }
+        ensures listed { listed self.new ≡ listed self.old ++ (rank key ∷ []) }
+    {
+        self.keys[self.end] = key;
+        self.end += 1;
     }
 
     // The temporary keys but one.
     pub fn temporary_but(&self, other: Key) -> KeyList
         ensures { listed result ≡ keys_but (rank other) (listed self.now) }
     {
-        let mut chosen = [Key::STANDING; 32];
-        let mut count = 0;
-        for i in self.from..self.end.min(32) {
-            let key = self.keys[i];
-            if !skips(key, other) {
-                chosen[count] = key;
-                count += 1;
+        let mut kept = KeyList::empty();
+        for key in self.as_slice() {
+            if !skips(*key, other) {
+                kept.push(*key);
             }
         }
-        KeyList::of(chosen, count)
+        kept
     }
 }

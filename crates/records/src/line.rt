@@ -5,7 +5,7 @@ use values::refusal::Refusal;
 use values::version::{Key, Version};
 
 // What a line asks of its provider.
-#[derive(Clone, Copy)]
+#[derive(Clone, Copy, PartialEq, Eq, Debug)]
 pub enum Request<V> {
     List,
     Get(Key),
@@ -14,30 +14,34 @@ pub enum Request<V> {
 }
 
 // What a provider answers, where it does not refuse.
-#[derive(Clone, Copy)]
+#[derive(Clone, Copy, PartialEq, Eq, Debug)]
 pub enum Reply<V> {
     Keys(KeyList),
     Got(Option<Stored<V>>),
     Done,
 }
 
-// Where a line's request is: there is none, it is on the way, or its answer is there.
-#[derive(Clone, Copy)]
-pub enum Transit {
+// What a line has on the way: nothing; its request to the provider; or the provider's answer, or its refusal, until that is
+// fetched. A request or an answer is stale if it is of a phase that is over.
+#[derive(Clone, Copy, PartialEq, Eq, Debug)]
+pub enum Transit<V> {
     Free,
-    Sent,
-    Answered,
+    Sent {
+        stale: bool,
+        request: Request<V>,
+    },
+    Answered {
+        stale: bool,
+        answer: Result<Reply<V>, Refusal>,
+    },
 }
 
-// A line: what one seat has to do with one provider. The request is kept while it is on the way, and the provider's answer,
-// or its refusal, until it is fetched; a free line's old request and answer mean nothing. What is on the way is stale if
-// it is of a phase that is over. The rest says how far the line is in its seat's phase.
-#[derive(Clone, Copy)]
+// A line: what one seat has to do with one provider, that is, what is on the way, and how far the line is in its seat's
+// phase. (Whether it is done stands beside what it found, as in the protocol's record of a line: a line that has listed is
+// done with a key and no pair.)
+#[derive(Clone, Copy, PartialEq, Eq, Debug)]
 pub struct Line<V> {
-    pub transit: Transit,
-    pub stale: bool,
-    pub request: Request<V>,
-    pub answer: Result<Reply<V>, Refusal>,
+    pub transit: Transit<V>,
     pub stage: Stage,
     pub done: bool,
     pub mark: Version,

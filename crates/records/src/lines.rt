@@ -1,11 +1,11 @@
 ghost use Rattle.std.specs.Prelude.{◌≡◌, false};
 ghost use Rattle.protocol.specs.Lines as lin;
-ghost use Rattle.protocol.specs.Lines.{blank_line, restart_line};
+ghost use Rattle.protocol.specs.Lines.{blank_line, stale_state, restart_line};
 ghost use Rattle.protocol.specs.Phases.{counts, listed_on, found_on};
 ghost use Rattle.std.specs.Option.{option_map};
 ghost use Rattle.values.specs.Rank.{rank};
 ghost use Rattle.stores.specs.Operations.{pair_means};
-ghost use Rattle.records.specs.Means.{line_means, progress_means, request_means, answer_means};
+ghost use Rattle.records.specs.Means.{line_means, transit_means, progress_means, request_means, answer_means};
 
 use crate::key_list::KeyList;
 use crate::line::{Line, Reply, Request, Transit};
@@ -15,6 +15,20 @@ use values::kind::Kind;
 use values::refusal::Refusal;
 use values::version::{Key, Version};
 
+impl<V: Kind> Transit<V> {
+    // The same once its phase is over: stale, if there is anything.
+    fn stale(self) -> Transit<V>
+        ensures { transit_means V.Kind.code result ≡ stale_state (transit_means V.Kind.code self) }
+    {
+        let stale = true;
+        match self {
+            Transit::Free => Transit::Free,
+            Transit::Sent { request, .. } => Transit::Sent { stale, request },
+            Transit::Answered { answer, .. } => Transit::Answered { stale, answer },
+        }
+    }
+}
+
 impl<V: Kind> Line<V> {
     // A free line at the start of a phase, with its other fields zero or blank.
     pub fn blank() -> Line<V>
@@ -22,9 +36,6 @@ impl<V: Kind> Line<V> {
     {
         Line {
             transit: Transit::Free,
-            stale: false,
-            request: Request::List,
-            answer: Ok(Reply::Done),
             stage: Stage::List,
             done: false,
             mark: Version::NONE,
@@ -46,23 +57,17 @@ impl<V: Kind> Line<V> {
     pub fn sent(self, request: Request<V>) -> Line<V>
         ensures { line_means V.Kind.code result ≡ record { state = lin.sent false (request_means V.Kind.code request); progress = progress_means V.Kind.code self } }
     {
-        Line {
-            transit: Transit::Sent,
-            stale: false,
-            request,
-            ..self
-        }
+        let stale = false;
+        let transit = Transit::Sent { stale, request };
+        Line { transit, ..self }
     }
 
-    // The line with an answer, which is as stale as its request was.
-    pub fn answered(self, answer: Result<Reply<V>, Refusal>) -> Line<V>
-        ensures { line_means V.Kind.code result ≡ record { state = lin.answered self.stale (answer_means V.Kind.code answer); progress = progress_means V.Kind.code self } }
+    // The line with an answer, which is stale if its request was.
+    pub fn answered(self, stale: bool, answer: Result<Reply<V>, Refusal>) -> Line<V>
+        ensures { line_means V.Kind.code result ≡ record { state = lin.answered stale (answer_means V.Kind.code answer); progress = progress_means V.Kind.code self } }
     {
-        Line {
-            transit: Transit::Answered,
-            answer,
-            ..self
-        }
+        let transit = Transit::Answered { stale, answer };
+        Line { transit, ..self }
     }
 
     // The line after a phase of its seat started or its operation ended.
@@ -70,7 +75,7 @@ impl<V: Kind> Line<V> {
         ensures { line_means V.Kind.code result ≡ restart_line (line_means V.Kind.code self) }
     {
         Line {
-            stale: true,
+            transit: self.transit.stale(),
             stage: Stage::List,
             done: false,
             mark: Version::NONE,
@@ -82,10 +87,7 @@ impl<V: Kind> Line<V> {
     pub fn counts(&self) -> bool
         ensures { result ≡ counts (line_means V.Kind.code self.now) }
     {
-        match self.transit {
-            Transit::Free => self.done,
-            Transit::Sent | Transit::Answered => false,
-        }
+        self.done && self.is_free()
     }
 
     // The largest key that it listed, if it counts.

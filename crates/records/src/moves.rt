@@ -1,7 +1,9 @@
 ghost use Rattle.std.specs.Prelude.{◌≡◌};
+ghost use Rattle.std.specs.Option.{option_map};
 ghost use Rattle.values.specs.Rank.{rank};
+ghost use Rattle.stores.specs.Operations.{pair_means};
 ghost use Rattle.protocol.specs.Lines as lin;
-ghost use Rattle.protocol.specs.Moves.{keep_list, remove_or_put, after_list, advance_listing, advance_storing, gather_list, gather_largest, gather_standing, advance_gathering, set_mark, advance};
+ghost use Rattle.protocol.specs.Moves.{to_stage, finished, finished_with, keep_list, remove_or_put, after_list, advance_listing, advance_storing, gather_list, gather_largest, gather_standing, advance_gathering, set_mark, advance};
 ghost use Rattle.protocol.specs.Seats.{activity};
 ghost use Rattle.protocol.specs.Steps.{looks_after};
 ghost use Rattle.records.specs.Means.{listed, line_means, progress_means, answer_means, seat_means};
@@ -11,11 +13,32 @@ use crate::line::{Line, Reply};
 use crate::seat::Seat;
 use protocol::phase::Phase;
 use protocol::stage::Stage;
+use stores::stored::Stored;
 use values::kind::Kind;
+use values::refusal::Refusal;
 use values::version::{Key, Version};
 
 // How an answer moves a line. Each function changes what says how far the line is, and leaves the rest.
 impl<V: Kind> Line<V> {
+    fn to_stage(self, stage: Stage) -> Line<V>
+        ensures { progress_means V.Kind.code result ≡ to_stage stage (progress_means V.Kind.code self) }
+    {
+        Line { stage, ..self }
+    }
+
+    fn finished(self) -> Line<V>
+        ensures { progress_means V.Kind.code result ≡ finished (progress_means V.Kind.code self) }
+    {
+        Line { done: true, ..self }
+    }
+
+    // Done, with what it found, if anything.
+    fn finished_with(self, found: Option<Stored<V>>) -> Line<V>
+        ensures { progress_means V.Kind.code result ≡ finished_with (option_map (pair_means V.Kind.code) found) (progress_means V.Kind.code self) }
+    {
+        Line { found, ..self }.finished()
+    }
+
     // The line with the keys of a list: the largest temporary one, and the others to remove.
     fn keep_list(self, keys: KeyList) -> Line<V>
         ensures { progress_means V.Kind.code result ≡ keep_list (listed keys) (progress_means V.Kind.code self) }
@@ -33,68 +56,58 @@ impl<V: Kind> Line<V> {
     fn remove_or_put(self) -> Line<V>
         ensures { progress_means V.Kind.code result ≡ remove_or_put (listed self.older) (progress_means V.Kind.code self) }
     {
-        let stage = if self.older.any() {
+        self.to_stage(if self.older.any() {
             Stage::RemoveOlder
         } else {
             Stage::PutStanding
-        };
-        Line { stage, ..self }
+        })
     }
 
-    fn after_listing(self) -> Line<V>
-        ensures { progress_means V.Kind.code result ≡ advance_listing (answer_means V.Kind.code self.answer) (progress_means V.Kind.code self) }
+    fn after_listing(self, answer: Result<Reply<V>, Refusal>) -> Line<V>
+        ensures { progress_means V.Kind.code result ≡ advance_listing (answer_means V.Kind.code answer) (progress_means V.Kind.code self) }
     {
-        match self.answer {
-            Ok(Reply::Keys(keys)) => Line {
-                done: true,
-                ..self.keep_list(keys)
-            },
+        match answer {
+            Ok(Reply::Keys(keys)) => self.keep_list(keys).finished(),
             _ => self,
         }
     }
 
-    fn after_list(self) -> Line<V>
-        ensures { progress_means V.Kind.code result ≡ after_list (answer_means V.Kind.code self.answer) (progress_means V.Kind.code self) }
+    fn after_list(self, answer: Result<Reply<V>, Refusal>) -> Line<V>
+        ensures { progress_means V.Kind.code result ≡ after_list (answer_means V.Kind.code answer) (progress_means V.Kind.code self) }
     {
-        match self.answer {
+        match answer {
             Ok(Reply::Keys(keys)) => self.keep_list(keys).remove_or_put(),
             _ => self,
         }
     }
 
     // Storing a version.
-    fn after_storing(self, version: Version) -> Line<V>
-        ensures { progress_means V.Kind.code result ≡ advance_storing (rank version) self.stage (answer_means V.Kind.code self.answer) (progress_means V.Kind.code self) }
+    fn after_storing(self, version: Version, answer: Result<Reply<V>, Refusal>) -> Line<V>
+        ensures { progress_means V.Kind.code result ≡ advance_storing (rank version) self.stage (answer_means V.Kind.code answer) (progress_means V.Kind.code self) }
     {
-        let none_listed = self.largest.same(Key::STANDING);
-        match (self.stage, self.answer) {
+        let none_listed = self.largest == Key::STANDING;
+        match (self.stage, answer) {
             (Stage::RemoveOlder, _) => {
                 let older = self.older.rest();
                 Line { older, ..self }.remove_or_put()
             }
             (Stage::PutStanding, Ok(Reply::Done)) => {
-                if none_listed || self.largest.before(version) {
-                    Line {
-                        stage: Stage::PutOwn,
-                        ..self
-                    }
+                if none_listed || self.largest < version {
+                    self.to_stage(Stage::PutOwn)
                 } else {
-                    Line { done: true, ..self }
+                    self.finished()
                 }
             }
             (Stage::PutOwn, Ok(Reply::Done)) => {
                 if none_listed {
-                    Line { done: true, ..self }
+                    self.finished()
                 } else {
-                    Line {
-                        stage: Stage::RemoveLargest,
-                        ..self
-                    }
+                    self.to_stage(Stage::RemoveLargest)
                 }
             }
-            (Stage::RemoveLargest, _) => Line { done: true, ..self },
+            (Stage::RemoveLargest, _) => self.finished(),
             (Stage::PutStanding | Stage::PutOwn, _) => self,
-            _ => self.after_list(),
+            _ => self.after_list(answer),
         }
     }
 
@@ -102,7 +115,7 @@ impl<V: Kind> Line<V> {
     fn marked(self) -> Line<V>
         ensures { progress_means V.Kind.code result ≡ set_mark (progress_means V.Kind.code self) }
     {
-        let mark = if self.mark.same(Version::NONE) {
+        let mark = if self.mark == Version::NONE {
             self.largest
         } else {
             self.mark
@@ -110,95 +123,69 @@ impl<V: Kind> Line<V> {
         Line { mark, ..self }
     }
 
-    fn after_gather_list(self) -> Line<V>
-        ensures { progress_means V.Kind.code result ≡ gather_list (answer_means V.Kind.code self.answer) (progress_means V.Kind.code self) }
+    fn after_gather_list(self, answer: Result<Reply<V>, Refusal>) -> Line<V>
+        ensures { progress_means V.Kind.code result ≡ gather_list (answer_means V.Kind.code answer) (progress_means V.Kind.code self) }
     {
-        match self.answer {
+        match answer {
             Ok(Reply::Keys(keys)) => {
                 let kept = self.keep_list(keys);
-                if kept.largest.same(Key::STANDING) {
-                    Line {
-                        done: true,
-                        found: None,
-                        ..kept
-                    }
+                if kept.largest == Key::STANDING {
+                    kept.finished_with(None)
                 } else {
-                    Line {
-                        stage: Stage::GetLargest,
-                        ..kept.marked()
-                    }
+                    kept.marked().to_stage(Stage::GetLargest)
                 }
             }
             _ => self,
         }
     }
 
-    fn after_get_largest(self) -> Line<V>
-        ensures { progress_means V.Kind.code result ≡ gather_largest (answer_means V.Kind.code self.answer) (progress_means V.Kind.code self) }
+    fn after_get_largest(self, answer: Result<Reply<V>, Refusal>) -> Line<V>
+        ensures { progress_means V.Kind.code result ≡ gather_largest (answer_means V.Kind.code answer) (progress_means V.Kind.code self) }
     {
-        let answer = self.answer;
         match answer {
-            Ok(Reply::Got(None)) => Line {
-                stage: Stage::GetStanding,
-                ..self
-            },
-            Ok(Reply::Got(found)) => Line {
-                done: true,
-                found,
-                ..self
-            },
+            Ok(Reply::Got(None)) => self.to_stage(Stage::GetStanding),
+            Ok(Reply::Got(found)) => self.finished_with(found),
             _ => self,
         }
     }
 
-    fn after_get_standing(self) -> Line<V>
-        ensures { progress_means V.Kind.code result ≡ gather_standing (answer_means V.Kind.code self.answer) (progress_means V.Kind.code self) }
+    fn after_get_standing(self, answer: Result<Reply<V>, Refusal>) -> Line<V>
+        ensures { progress_means V.Kind.code result ≡ gather_standing (answer_means V.Kind.code answer) (progress_means V.Kind.code self) }
     {
-        let answer = self.answer;
         match answer {
             Ok(Reply::Got(Some(pair))) => {
-                if pair.version.before(self.mark) {
-                    Line {
-                        stage: Stage::List,
-                        ..self
-                    }
+                if pair.version < self.mark {
+                    self.to_stage(Stage::List)
                 } else {
-                    Line {
-                        done: true,
-                        found: Some(pair),
-                        ..self
-                    }
+                    self.finished_with(Some(pair))
                 }
             }
-            Ok(Reply::Got(None)) => Line {
-                stage: Stage::List,
-                ..self
-            },
+            Ok(Reply::Got(None)) => self.to_stage(Stage::List),
             _ => self,
         }
     }
 
-    fn after_gathering(self) -> Line<V>
-        ensures { progress_means V.Kind.code result ≡ advance_gathering self.stage (answer_means V.Kind.code self.answer) (progress_means V.Kind.code self) }
+    fn after_gathering(self, answer: Result<Reply<V>, Refusal>) -> Line<V>
+        ensures { progress_means V.Kind.code result ≡ advance_gathering self.stage (answer_means V.Kind.code answer) (progress_means V.Kind.code self) }
     {
         match self.stage {
-            Stage::GetLargest => self.after_get_largest(),
-            Stage::GetStanding => self.after_get_standing(),
-            _ => self.after_gather_list(),
+            Stage::GetLargest => self.after_get_largest(answer),
+            Stage::GetStanding => self.after_get_standing(answer),
+            _ => self.after_gather_list(answer),
         }
     }
 
-    // The line once its answer is taken: free, and as far as the answer moves it. A line that is done stays so.
-    pub fn advanced(self, seat: &Seat<V>) -> Line<V>
-        ensures { line_means V.Kind.code result ≡ record { state = lin.free; progress = advance (activity (seat_means V.Kind.code seat.now)) (answer_means V.Kind.code self.answer) (progress_means V.Kind.code self) } }
+    // The line once an answer is taken: free, and as far as the answer moves it. A line that is done stays so.
+    pub fn advanced(self, seat: &Seat<V>, answer: Result<Reply<V>, Refusal>) -> Line<V>
+        ensures { line_means V.Kind.code result ≡ record { state = lin.free; progress = advance (activity (seat_means V.Kind.code seat.now)) (answer_means V.Kind.code answer) (progress_means V.Kind.code self) } }
     {
         if self.done {
             return self.freed();
         }
         let moved = match seat.phase {
-            Phase::Listing => self.after_listing(),
-            Phase::Storing => self.after_storing(seat.version),
-            Phase::Gathering => self.after_gathering(),
+            Phase::Listing => self.after_listing(answer),
+            Phase::Storing => self.after_storing(seat.version, answer),
+            Phase::Gathering => self.after_gathering(answer),
             Phase::Idle | Phase::Stopped => self,
         };
         moved.freed()
@@ -208,9 +195,10 @@ impl<V: Kind> Line<V> {
     pub fn looks_after(&self, next: &Line<V>, looks: u32) -> u32
         ensures { result ≡ looks_after looks (progress_means V.Kind.code self.now) (progress_means V.Kind.code next.now) }
     {
-        match self.stage {
-            Stage::GetStanding if !next.done => looks.saturating_add(1),
-            _ => looks,
+        if self.stage == Stage::GetStanding && !next.done {
+            looks.saturating_add(1)
+        } else {
+            looks
         }
     }
 }

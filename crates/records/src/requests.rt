@@ -32,22 +32,17 @@ impl<V: Kind> Line<V> {
             _ => Request::List,
         }
     }
-}
 
-impl<V: Kind> Line<V> {
     // Whether the seat's phase has the line's stage, and the line's list the key that the stage needs.
     fn at_home(&self, seat: &Seat<V>) -> bool
         ensures { result ≡ (has_stage (activity (seat_means V.Kind.code seat.now)) self.now.stage && has_key self.now.stage (progress_means V.Kind.code self.now)) }
     {
         match (seat.phase, self.stage) {
-            (Phase::Listing, Stage::List) => true,
-            (Phase::Storing, Stage::List) => true,
-            (Phase::Gathering, Stage::List) => true,
+            (Phase::Listing | Phase::Storing | Phase::Gathering, Stage::List) => true,
             (Phase::Storing, Stage::RemoveOlder) => self.older.any(),
-            (Phase::Storing, Stage::PutStanding) => true,
-            (Phase::Storing, Stage::PutOwn) => true,
-            (Phase::Storing, Stage::RemoveLargest) => !self.largest.same(Key::STANDING),
-            (Phase::Gathering, Stage::GetLargest) => !self.largest.same(Key::STANDING),
+            (Phase::Storing, Stage::PutStanding | Stage::PutOwn) => true,
+            (Phase::Storing, Stage::RemoveLargest) => self.largest != Key::STANDING,
+            (Phase::Gathering, Stage::GetLargest) => self.largest != Key::STANDING,
             (Phase::Gathering, Stage::GetStanding) => true,
             _ => false,
         }
@@ -55,17 +50,19 @@ impl<V: Kind> Line<V> {
 
     // Whether the line's answer, if it has one that is not stale, is of the kind of a request.
     fn suits(&self, request: Request<V>) -> bool
-        ensures { result ≡ state_suits (request_means V.Kind.code request) (transit_means V.Kind.code self.now.transit self.now) }
+        ensures { result ≡ state_suits (request_means V.Kind.code request) (transit_means V.Kind.code self.now.transit) }
     {
         match self.transit {
-            Transit::Answered if !self.stale => match (request, self.answer) {
-                (Request::List, Ok(Reply::Keys(_))) => true,
-                (Request::Get(_), Ok(Reply::Got(_))) => true,
-                (Request::Put(_, _), Ok(Reply::Done)) => true,
-                (Request::Remove(_), Ok(Reply::Done)) => true,
-                (Request::Put(_, _), Err(Refusal::StoreFull)) => true,
-                _ => false,
-            },
+            Transit::Answered {
+                stale: false,
+                answer,
+            } => matches!(
+                (request, answer),
+                (Request::List, Ok(Reply::Keys(_)))
+                    | (Request::Get(_), Ok(Reply::Got(_)))
+                    | (Request::Put(_, _) | Request::Remove(_), Ok(Reply::Done))
+                    | (Request::Put(_, _), Err(Refusal::StoreFull))
+            ),
             _ => true,
         }
     }
@@ -78,11 +75,8 @@ impl<V: Kind> Line<V> {
     }
 
     pub fn is_free(&self) -> bool
-        ensures { result ≡ is_free (transit_means V.Kind.code self.now.transit self.now) }
+        ensures { result ≡ is_free (transit_means V.Kind.code self.now.transit) }
     {
-        match self.transit {
-            Transit::Free => true,
-            Transit::Sent | Transit::Answered => false,
-        }
+        matches!(self.transit, Transit::Free)
     }
 }

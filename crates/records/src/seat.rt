@@ -4,7 +4,7 @@ use values::version::Version;
 
 // A seat of the office: what it is doing, the operation that it works on or worked on last, and the version and the
 // value of that operation.
-#[derive(Clone, Copy)]
+#[derive(Clone, Copy, PartialEq, Eq, Debug)]
 pub struct Seat<V> {
     pub phase: Phase,
     pub operation: OperationKind,

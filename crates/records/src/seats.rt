@@ -1,4 +1,4 @@
-ghost use Rattle.std.specs.Prelude.{◌≡◌, cond};
+ghost use Rattle.std.specs.Prelude.{◌≡◌};
 ghost use Rattle.values.specs.Rank.{rank};
 ghost use Rattle.protocol.specs.Seats.{blank_seat, activity, is_idle, is_stopped, turned_to, listing, gathering, storing, idle, stopped};
 ghost use Rattle.records.specs.Means.{seat_means};
@@ -26,19 +26,13 @@ impl<V: Kind> Seat<V> {
     pub fn is_idle(&self) -> bool
         ensures { result ≡ is_idle (activity (seat_means V.Kind.code self.now)) }
     {
-        match self.phase {
-            Phase::Idle => true,
-            _ => false,
-        }
+        self.phase == Phase::Idle
     }
 
     pub fn is_stopped(&self) -> bool
         ensures { result ≡ is_stopped (activity (seat_means V.Kind.code self.now)) }
     {
-        match self.phase {
-            Phase::Stopped => true,
-            _ => false,
-        }
+        self.phase == Phase::Stopped
     }
 
     // The seat after its operation ended.
@@ -69,7 +63,7 @@ impl<V: Kind> Seat<V> {
         }
     }
 
-    // The seat at the beginning of a read.
+    // The seat at the beginning of a read. (Settled or not, a yes or no as in the protocol's `gathering`.)
     pub fn gathering(self, settled: bool) -> Seat<V>
         ensures { seat_means V.Kind.code result ≡ turned_to (gathering settled) (seat_means V.Kind.code self) }
     {
@@ -86,7 +80,8 @@ impl<V: Kind> Seat<V> {
         }
     }
 
-    // The seat that stores a version and a value, for a write or else for a settled read.
+    // The seat that stores a version and a value, for a write or else for a settled read: a yes or no, as in the protocol's
+    // `storing`.
     pub fn storing(self, write: bool, pair: Stored<V>) -> Seat<V>
         ensures { seat_means V.Kind.code result ≡ turned_to (storing write (rank pair.version) (V.Kind.code pair.value)) (seat_means V.Kind.code self) }
     {

@@ -1,8 +1,9 @@
-use Rattle.records.proofs.Queues.{queue_rest, queue_past}
+use Rattle.std.proofs.Common.{map, take, drop, sym, ap, ◌∙◌}
+use Rattle.std.proofs.lemmas.List.{drop-drop, drop-map}
+use Rattle.values.specs.Rank.{rank}
 use Rattle.records.proofs.key_list.KeyList.rest.Goals as goal
 
 pub returns-then-self : goal.returns-then-self
-returns-then-self c = queue_rest c.args.self.keys c.args.self.from c.args.self.end
-
-pub returns-else-self : goal.returns-else-self
-returns-else-self c = queue_past c.args.self.keys c.args.self.from c.args.self.end c.if-self.false
+returns-then-self c =
+    let l = c.args.self in
+    ap (map rank) (sym (drop-drop 1 l.from (take l.end l.keys))) ∙ sym (drop-map rank 1 (drop l.from (take l.end l.keys)))

@@ -1,8 +1,8 @@
 -- Land, from what its check comes to.
-use Rattle.std.proofs.Common.{◌≡◌, ℕ, ◌+◌, ◌*◌, Bool, true, false, cond, ◌&&◌, ltb, List, length, get_or, set, Ok, Err, Result, sym, refl, ap, ◌∙◌, subst, ap₂}
+use Rattle.std.proofs.Common.{◌≡◌, ℕ, ◌+◌, ◌*◌, Bool, true, false, cond, ◌&&◌, ltb, List, length, set, Ok, Err, Result, sym, refl, ap, ◌∙◌, subst, ap₂}
 use Rattle.std.proofs.lemmas.Bool.{and_right}
+use Rattle.std.proofs.lemmas.List.{set-get_or}
 use Rattle.stores.specs.Provider.{Provider}
-use Rattle.banks.specs.Row.{absent}
 use Rattle.protocol.specs.Answers.{Answer, ok, refused}
 use Rattle.protocol.specs.Lines as lin
 use Rattle.protocol.specs.Lines.{LineState, free, sent, answered, Progress}
@@ -12,11 +12,6 @@ use Rattle.protocol.specs.Steps.{land_line}
 use Rattle.relay.specs.Effects.{landing, land_check, LandedAs, Landed}
 use Rattle.relay.specs.RelayState.{asks_list, overlong, unless_overlong}
 use Rattle.relay.specs.Sheets.{land_on}
-use Rattle.relay.specs.declared.place.Place.{Place}
-
-pub landed_by : (at : Place) (lost : List Bool) (row row_now : List Provider) (lines lines_now : List lin.Line) (a : Answer) (b : Bool) (w : LineState) (res : Result (LineState × Provider) ℕ) → get_or lost at.provider false ≡ b → (line_at at.providers lines at.seat at.provider).state ≡ w → land_check b w (get_or row at.provider absent) ≡ res → LandedAs at row lines res a row_now lines_now → Landed at lost row lines a row_now lines_now
-landed_by at lost row row_now lines lines_now a b w res lost-is state-is check-is h =
-    subst (λ x. LandedAs at row lines x a row_now lines_now) (sym (ap₂ (λ b w. land_check b w (get_or row at.provider absent)) lost-is state-is ∙ check-is)) h
 
 -- the state and the answer after a check
 abbrev pub landed_state : ℕ → ℕ → ℕ → State → Result (LineState × Provider) ℕ → State × Answer
@@ -47,10 +42,15 @@ module _ (n s i : ℕ) (C : State) where
       go false = carried (provider_at C i) (line_at n C.lines s i).progress (line_at n C.lines s i).state refl
 
 -- and where a line was landed so, the state is that one
-pub landed_is : (at : Place) (C : State) (a : Answer) (row_now : List Provider) (lines_now : List lin.Line) (res : Result (LineState × Provider) ℕ) → LandedAs at C.row C.lines res a row_now lines_now → (record { seats = C.seats; lines = lines_now; row = row_now; lost = C.lost; looks = C.looks }, a) ≡ landed_state at.providers at.seat at.provider C res
-landed_is at C a row_now lines_now (Err e) h =
+pub landed_is : (n s i : ℕ) (C : State) (a : Answer) (row_now : List Provider) (line_now : lin.Line) (lines_now : List lin.Line) (res : Result (LineState × Provider) ℕ) → LandedAs i C.row (line_at n C.lines s i) res a row_now line_now → lines_now ≡ set C.lines (s * n + i) line_now → (record { seats = C.seats; lines = lines_now; row = row_now; lost = C.lost; looks = C.looks }, a) ≡ landed_state n s i C res
+landed_is n s i C a row_now line_now lines_now (Err e) h is =
     let f : Answer → List Provider → List lin.Line → State × Answer = λ a r l. (record { seats = C.seats; lines = l; row = r; lost = C.lost; looks = C.looks }, a) in
-    ap (λ a. f a row_now lines_now) h.0 ∙ ap₂ (f (refused e)) h.1 h.2
-landed_is at C a row_now lines_now (Ok w) h =
+    ap (λ a. f a row_now lines_now) h.0 ∙ ap₂ (f (refused e)) h.1 (is ∙ (ap (set C.lines (s * n + i)) h.2 ∙ set-get_or C.lines (s * n + i) lin.blank_line))
+landed_is n s i C a row_now line_now lines_now (Ok w) h is =
     let f : Answer → List Provider → List lin.Line → State × Answer = λ a r l. (record { seats = C.seats; lines = l; row = r; lost = C.lost; looks = C.looks }, a) in
-    ap (λ a. f a row_now lines_now) h.0 ∙ ap₂ (f ok) h.1 h.2
+    ap (λ a. f a row_now lines_now) h.0 ∙ ap₂ (f ok) h.1 (is ∙ ap (set C.lines (s * n + i)) h.2)
+
+pub landed_on : (n s i : ℕ) (C : State) (a : Answer) (row_now : List Provider) (line line_now : lin.Line) (lines_now : List lin.Line) → line ≡ line_at n C.lines s i → Landed i C.lost C.row line a row_now line_now → lines_now ≡ set C.lines (s * n + i) line_now → (record { seats = C.seats; lines = lines_now; row = row_now; lost = C.lost; looks = C.looks }, a) ≡ unless_overlong (overlong n s i C) C (land_on n s i C)
+landed_on n s i C a row_now line line_now lines_now was h is =
+    landed_is n s i C a row_now line_now lines_now (land_check (lost_at C i) (line_at n C.lines s i).state (provider_at C i)) (subst (λ l. Landed i C.lost C.row l a row_now line_now) was h) is
+    ∙ sym (land_guarded n s i C)

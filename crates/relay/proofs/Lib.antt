@@ -1,8 +1,8 @@
 mod Exits
-mod Reading
-mod Tallies
+mod Own
+mod Among
+mod Placing
 mod Stepping
-mod Turning
 mod Locating
 mod RelaySteps
 mod Asking

@@ -16,6 +16,7 @@ use Rattle.relay.specs.declared.inner.Inner.{Inner}
 use Rattle.relay.specs.declared.inner.ProviderRecord.{ProviderRecord}
 use Rattle.relay.specs.declared.place.Place.{Place}
 use Rattle.relay.specs.declared.place.SeatPlace.{SeatPlace}
+use Rattle.relay.specs.declared.relay.Relay.{Relay}
 
 -- What a relay and its sheets mean: the number of the refusal of its open, if it was refused; the number of seats; and the
 -- protocol's state. The number of providers is the length of the row.
@@ -29,6 +30,10 @@ pub record RelayState : Type 0 where
 abbrev pub admission : Option ℕ → ℕ → ℕ → ℕ → ℕ → Result ℕ ℕ
 admission (Some e) m n seats lines = Err e
 admission None m n seats lines = cond (nat_lt seats m || nat_lt lines (m * n)) (Err 2) (Ok n)
+
+-- what a relay over a row is admitted to, with sheets of so many places
+abbrev pub admission_of : List Provider → Inner → ℕ → ℕ → Result ℕ ℕ
+admission_of row r seats lines = admission (option_map refusal_number r.refused) r.seats (size_of row) seats lines
 
 -- A line keeps at most 32 keys. Landing a list at a provider that holds more, which open does not accept, is refused by 16.
 abbrev pub asks_list : LineState → Bool
@@ -82,15 +87,17 @@ lost_flags r = map (λ (p : ProviderRecord). p.lost) r.providers
 abbrev pub relay_state : {V : Type 0} → (V → List ℕ) → List Provider → Inner → List (Seat V) → List (Line V) → RelayState
 relay_state code row r seats lines = record { refusal = option_map refusal_number r.refused; seat_count = r.seats; state = sheets_state code seats lines row (lost_flags r) r.looks }
 
--- the line that a seat and a provider name, by number, or the first refusal that is met
-abbrev pub line_of : Result ℕ ℕ → ℕ → ℕ → ℕ → Result Place ℕ
-line_of (Ok n) m seat provider = located m n seat provider
-line_of (Err e) m seat provider = Err e
+-- what a relay means, with its sheets, by the code of its values and the row of its bank
+abbrev pub relay_means : {B V : Type 0} → (V → List ℕ) → (B → List Provider) → Relay B → List (Seat V) → List (Line V) → RelayState
+relay_means code row r seats lines = relay_state code (row r.bank) r.inner seats lines
 
--- the seat that a number names, or the first refusal that is met
+-- the seat that a number names, and the line that a seat and a provider name, or the first refusal that is met
 abbrev pub seat_of : Result ℕ ℕ → ℕ → ℕ → Result SeatPlace ℕ
 seat_of (Ok n) m seat = seated m n seat
 seat_of (Err e) m seat = Err e
+
+abbrev pub line_of : Result ℕ ℕ → ℕ → ℕ → ℕ → Result Place ℕ
+line_of A m seat provider = located (seat_of A m seat) provider
 
 -- what looks answers
 abbrev pub looks_answer : Option ℕ → ℕ → Result ℕ ℕ

@@ -1,4 +1,4 @@
-use Rattle.std.specs.Prelude.{ℕ, Bool, List, map, Ok, Err, Result}
+use Rattle.std.specs.Prelude.{ℕ, Bool, List, map, Ok, Err, Result, slice_index_or}
 use Rattle.values.specs.Rank.{rank}
 use Rattle.values.specs.Refusals.{refusal_number}
 use Rattle.values.specs.declared.refusal.Refusal.{Refusal}
@@ -21,6 +21,10 @@ seats_mean code seats = map (seat_means code) seats
 
 abbrev pub lines_mean : {V : Type 0} → (V → List ℕ) → List (Line V) → List lin.Line
 lines_mean code lines = map (line_means code) lines
+
+-- the line at a place among a seat's own
+abbrev pub line_in : List lin.Line → ℕ → lin.Line
+line_in own i = slice_index_or own i lin.blank_line
 
 -- the protocol's state of two sheets, beside a row of providers, which of them are lost, and the count of second looks
 abbrev pub sheets_state : {V : Type 0} → (V → List ℕ) → List (Seat V) → List (Line V) → List Provider → List Bool → ℕ → State

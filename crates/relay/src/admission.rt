@@ -1,10 +1,8 @@
 // What every call checks first: the relay itself, the sheets, and the numbers of a seat and a provider.
 ghost use Rattle.std.specs.Prelude.{◌≡◌, ◌-◌, ◌*◌, not, ◌||◌, if◌then◌else◌, Ok, Err, nat_lt};
-ghost use Rattle.std.specs.Option.{option_map};
 ghost use Rattle.values.specs.Refusals.{refusal_number, numbered};
-ghost use Rattle.banks.specs.Row.{size_of};
 ghost use Rattle.protocol.specs.Steps.{outside};
-ghost use Rattle.relay.specs.RelayState.{admission};
+ghost use Rattle.relay.specs.RelayState.{admission_of};
 
 use crate::relay::Relay;
 use banks::bank::Bank;
@@ -15,7 +13,7 @@ use values::refusal::Refusal;
 pub(crate) fn place_of(number: usize, count: usize, refusal: Refusal) -> Result<usize, Refusal>
     ensures { numbered result ≡ (if outside number count then Err (refusal_number refusal) else Ok (number - 1)) }
 {
-    if number >= 1 && number <= count {
+    if (1..=count).contains(&number) {
         Ok(number - 1)
     } else {
         Err(refusal)
@@ -26,10 +24,8 @@ pub(crate) fn place_of(number: usize, count: usize, refusal: Refusal) -> Result<
 fn sheets_fit(m: usize, n: usize, seats: usize, lines: usize) -> bool
     ensures { not result ≡ (nat_lt seats m || nat_lt lines (m * n)) }
 {
-    match m.checked_mul(n) {
-        Some(places) => m <= seats && places <= lines,
-        None => false,
-    }
+    m.checked_mul(n)
+        .is_some_and(|places| m <= seats && places <= lines)
 }
 
 impl<B> Relay<B> {
@@ -37,7 +33,7 @@ impl<B> Relay<B> {
     pub(crate) fn admit<V: Kind>(&self, seats: usize, lines: usize) -> Result<usize, Refusal>
     where
         B: Bank<V>,
-        ensures { numbered result ≡ admission (option_map refusal_number self.now.inner.refused) self.now.inner.seats (size_of (B.Bank.row self.now.bank)) seats lines }
+        ensures { numbered result ≡ admission_of (B.Bank.row self.now.bank) self.now.inner seats lines }
     {
         if let Some(refusal) = self.inner.refused {
             return Err(refusal);

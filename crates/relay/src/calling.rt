@@ -3,7 +3,7 @@ ghost use Rattle.std.specs.Prelude.{◌≡◌, true, is_err};
 ghost use Rattle.banks.specs.Row.{size_of};
 ghost use Rattle.records.specs.Means.{call_means, told};
 ghost use Rattle.relay.specs.Effects.{BeyondAll};
-ghost use Rattle.relay.specs.RelayState.{relay_state, relay_step};
+ghost use Rattle.relay.specs.RelayState.{relay_means, relay_step};
 ghost use Rattle.relay.specs.Sheets.{acknowledged};
 
 use crate::relay::Relay;
@@ -18,16 +18,13 @@ use values::refusal::Refusal;
 // The answer of a call that is only accepted or refused.
 fn accepted<V: Kind>(answer: Result<(), Refusal>) -> Result<Answer<V>, Refusal>
     ensures answer { told V.Kind.code result ≡ acknowledged answer }
-    ensures refusal { is_err result ≡ is_err answer }
+    ensures refusal { is_err result ≡ true → is_err answer ≡ true }
 {
-    match answer {
-        Ok(()) => Ok(Answer::Accepted),
-        Err(refusal) => Err(refusal),
-    }
+    answer.map(|()| Answer::Accepted)
 }
 
 impl<B> Relay<B> {
-    // Makes a call.
+    // Makes a call. (Each kind of call has arguments of its own and lends other sheets, so this is a match.)
     pub fn call<V: Kind>(
         &mut self,
         seats: &mut [Seat<V>],
@@ -36,7 +33,7 @@ impl<B> Relay<B> {
     ) -> Result<Answer<V>, Refusal>
     where
         B: Bank<V>,
-        ensures step { (relay_state V.Kind.code (B.Bank.row self.new.bank) self.new.inner seats.new lines.new, told V.Kind.code result) ≡ relay_step (relay_state V.Kind.code (B.Bank.row self.old.bank) self.old.inner seats.old lines.old) (call_means V.Kind.code call) }
+        ensures step { (relay_means V.Kind.code B.Bank.row self.new seats.new lines.new, told V.Kind.code result) ≡ relay_step (relay_means V.Kind.code B.Bank.row self.old seats.old lines.old) (call_means V.Kind.code call) }
         ensures beyond { BeyondAll self.old.inner.seats (size_of (B.Bank.row self.old.bank)) seats.old lines.old seats.new lines.new }
         ensures refusal { is_err result ≡ true → (seats.new ≡ seats.old) × (lines.new ≡ lines.old) × (self.new.inner ≡ self.old.inner) }
     {

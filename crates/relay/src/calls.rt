@@ -3,8 +3,8 @@ ghost use Rattle.std.specs.Prelude.{◌≡◌, ◌*◌, true, drop, is_err};
 ghost use Rattle.banks.specs.Row.{size_of};
 ghost use Rattle.protocol.specs.Answers.{begin_write as write_call, begin_read as read_call, post as post_call, fetch as fetch_call, stop as stop_call};
 ghost use Rattle.records.specs.Means.{told};
-ghost use Rattle.relay.specs.Effects.{BeyondAll};
-ghost use Rattle.relay.specs.RelayState.{relay_state, relay_step};
+ghost use Rattle.relay.specs.Effects.{BeyondAll, begin_call};
+ghost use Rattle.relay.specs.RelayState.{relay_means, relay_step};
 ghost use Rattle.relay.specs.Sheets.{acknowledged};
 
 use crate::beginning::Beginning;
@@ -28,12 +28,15 @@ impl<B> Relay<B> {
     ) -> Result<(), Refusal>
     where
         B: Bank<V>,
-        ensures step { (relay_state V.Kind.code (B.Bank.row self.now.bank) self.now.inner seats.now lines.new, acknowledged result) ≡ relay_step (relay_state V.Kind.code (B.Bank.row self.now.bank) self.now.inner seats.now lines.old) (post_call seat provider) }
+        ensures step { (relay_means V.Kind.code B.Bank.row self.now seats.now lines.new, acknowledged result) ≡ relay_step (relay_means V.Kind.code B.Bank.row self.now seats.now lines.old) (post_call seat provider) }
         ensures beyond { drop (self.now.inner.seats * size_of (B.Bank.row self.now.bank)) lines.new ≡ drop (self.now.inner.seats * size_of (B.Bank.row self.now.bank)) lines.old }
         ensures refusal { is_err result ≡ true → lines.new ≡ lines.old }
     {
         let at = self.find::<V>(seats.len(), lines.len(), seat, provider)?;
-        post_line(seats, lines, at)
+        post_line(
+            &seats[at.seat.seat],
+            &mut lines[at.seat.start + at.provider],
+        )
     }
 
     // The answer of a line is taken, or dropped if it is stale; the seat's phase or operation may end.
@@ -46,12 +49,38 @@ impl<B> Relay<B> {
     ) -> Result<Answer<V>, Refusal>
     where
         B: Bank<V>,
-        ensures step { (relay_state V.Kind.code (B.Bank.row self.new.bank) self.new.inner seats.new lines.new, told V.Kind.code result) ≡ relay_step (relay_state V.Kind.code (B.Bank.row self.old.bank) self.old.inner seats.old lines.old) (fetch_call seat provider) }
+        ensures step { (relay_means V.Kind.code B.Bank.row self.new seats.new lines.new, told V.Kind.code result) ≡ relay_step (relay_means V.Kind.code B.Bank.row self.old seats.old lines.old) (fetch_call seat provider) }
         ensures beyond { BeyondAll self.old.inner.seats (size_of (B.Bank.row self.old.bank)) seats.old lines.old seats.new lines.new }
         ensures refusal { is_err result ≡ true → (seats.new ≡ seats.old) × (lines.new ≡ lines.old) × (self.new.inner ≡ self.old.inner) }
     {
         let at = self.find::<V>(seats.len(), lines.len(), seat, provider)?;
-        fetch_line(seats, lines, &mut self.inner.looks, at)
+        let own = &mut lines[at.seat.start..at.seat.start + at.seat.providers];
+        fetch_line(
+            &mut seats[at.seat.seat],
+            own,
+            &mut self.inner.looks,
+            at.seat.seat as u8,
+            at.provider,
+        )
+    }
+
+    // A seat begins an operation.
+    fn begin<V: Kind>(
+        &self,
+        seats: &mut [Seat<V>],
+        lines: &mut [Line<V>],
+        seat: usize,
+        what: Beginning<V>,
+    ) -> Result<(), Refusal>
+    where
+        B: Bank<V>,
+        ensures step { (relay_means V.Kind.code B.Bank.row self.now seats.new lines.new, acknowledged result) ≡ relay_step (relay_means V.Kind.code B.Bank.row self.now seats.old lines.old) (begin_call V.Kind.code seat what) }
+        ensures beyond { BeyondAll self.now.inner.seats (size_of (B.Bank.row self.now.bank)) seats.old lines.old seats.new lines.new }
+        ensures refusal { is_err result ≡ true → (seats.new ≡ seats.old) × (lines.new ≡ lines.old) }
+    {
+        let at = self.find_seat::<V>(seats.len(), lines.len(), seat)?;
+        let own = &mut lines[at.start..at.start + at.providers];
+        begin(&mut seats[at.seat], own, what)
     }
 
     // A seat begins a write of a value.
@@ -64,12 +93,11 @@ impl<B> Relay<B> {
     ) -> Result<(), Refusal>
     where
         B: Bank<V>,
-        ensures step { (relay_state V.Kind.code (B.Bank.row self.now.bank) self.now.inner seats.new lines.new, acknowledged result) ≡ relay_step (relay_state V.Kind.code (B.Bank.row self.now.bank) self.now.inner seats.old lines.old) (write_call seat (V.Kind.code value)) }
+        ensures step { (relay_means V.Kind.code B.Bank.row self.now seats.new lines.new, acknowledged result) ≡ relay_step (relay_means V.Kind.code B.Bank.row self.now seats.old lines.old) (write_call seat (V.Kind.code value)) }
         ensures beyond { BeyondAll self.now.inner.seats (size_of (B.Bank.row self.now.bank)) seats.old lines.old seats.new lines.new }
         ensures refusal { is_err result ≡ true → (seats.new ≡ seats.old) × (lines.new ≡ lines.old) }
     {
-        let at = self.find_seat::<V>(seats.len(), lines.len(), seat)?;
-        begin(seats, lines, at.providers, at.seat, Beginning::Write(value))
+        self.begin(seats, lines, seat, Beginning::Write(value))
     }
 
     // A seat begins a read, plain or settled.
@@ -82,18 +110,11 @@ impl<B> Relay<B> {
     ) -> Result<(), Refusal>
     where
         B: Bank<V>,
-        ensures step { (relay_state V.Kind.code (B.Bank.row self.now.bank) self.now.inner seats.new lines.new, acknowledged result) ≡ relay_step (relay_state V.Kind.code (B.Bank.row self.now.bank) self.now.inner seats.old lines.old) (read_call seat settled) }
+        ensures step { (relay_means V.Kind.code B.Bank.row self.now seats.new lines.new, acknowledged result) ≡ relay_step (relay_means V.Kind.code B.Bank.row self.now seats.old lines.old) (read_call seat settled) }
         ensures beyond { BeyondAll self.now.inner.seats (size_of (B.Bank.row self.now.bank)) seats.old lines.old seats.new lines.new }
         ensures refusal { is_err result ≡ true → (seats.new ≡ seats.old) × (lines.new ≡ lines.old) }
     {
-        let at = self.find_seat::<V>(seats.len(), lines.len(), seat)?;
-        begin(
-            seats,
-            lines,
-            at.providers,
-            at.seat,
-            Beginning::Read(settled),
-        )
+        self.begin(seats, lines, seat, Beginning::Read(settled))
     }
 
     // A seat stops for good. Its lines stay.
@@ -105,11 +126,11 @@ impl<B> Relay<B> {
     ) -> Result<(), Refusal>
     where
         B: Bank<V>,
-        ensures step { (relay_state V.Kind.code (B.Bank.row self.now.bank) self.now.inner seats.new lines.now, acknowledged result) ≡ relay_step (relay_state V.Kind.code (B.Bank.row self.now.bank) self.now.inner seats.old lines.now) (stop_call seat) }
+        ensures step { (relay_means V.Kind.code B.Bank.row self.now seats.new lines.now, acknowledged result) ≡ relay_step (relay_means V.Kind.code B.Bank.row self.now seats.old lines.now) (stop_call seat) }
         ensures beyond { drop self.now.inner.seats seats.new ≡ drop self.now.inner.seats seats.old }
         ensures refusal { is_err result ≡ true → seats.new ≡ seats.old }
     {
         let at = self.find_seat::<V>(seats.len(), lines.len(), seat)?;
-        stop_seat(seats, at.seat)
+        stop_seat(&mut seats[at.seat])
     }
 }

@@ -1,12 +1,12 @@
-// Which line a call is about.
-ghost use Rattle.std.specs.Prelude.{◌≡◌, ◌+◌, ◌*◌, ◌<◌, ◌≤◌, IfOk};
-ghost use Rattle.std.specs.Option.{option_map};
-ghost use Rattle.values.specs.Refusals.{refusal_number, numbered};
+// Which seat, line or provider a call is about, by number, where the sheets have so many places. (These two counts are only
+// passed on; a struct of them would be no plainer.)
+ghost use Rattle.std.specs.Prelude.{◌≡◌, ◌<◌, IfOk};
+ghost use Rattle.values.specs.Refusals.{numbered};
 ghost use Rattle.banks.specs.Row.{size_of};
-ghost use Rattle.relay.specs.RelayState.{admission, line_of, seat_of, provider_of};
+ghost use Rattle.relay.specs.Checks.{Within};
+ghost use Rattle.relay.specs.RelayState.{admission_of, line_of, seat_of, provider_of};
 
 use crate::admission::place_of;
-use crate::checks::{locate, locate_seat};
 use crate::place::{Place, SeatPlace};
 use crate::relay::Relay;
 use banks::bank::Bank;
@@ -14,7 +14,7 @@ use values::kind::Kind;
 use values::refusal::Refusal;
 
 impl<B> Relay<B> {
-    // The line of a seat and a provider, by number, where the sheets have so many places.
+    // The line of a seat and a provider.
     pub(crate) fn find<V: Kind>(
         &self,
         seats: usize,
@@ -24,14 +24,16 @@ impl<B> Relay<B> {
     ) -> Result<Place, Refusal>
     where
         B: Bank<V>,
-        ensures answer { numbered result ≡ line_of (admission (option_map refusal_number self.now.inner.refused) self.now.inner.seats (size_of (B.Bank.row self.now.bank)) seats lines) self.now.inner.seats seat provider }
-        ensures within { IfOk result (λ at. (at.seat < seats) × (at.seat < 255) × (at.provider < at.providers) × (at.seat * at.providers + at.providers ≤ self.now.inner.seats * at.providers) × (self.now.inner.seats * at.providers ≤ lines) × (at.providers ≡ size_of (B.Bank.row self.now.bank)) × (at.seat < self.now.inner.seats)) }
+        ensures answer { numbered result ≡ line_of (admission_of (B.Bank.row self.now.bank) self.now.inner seats lines) self.now.inner.seats seat provider }
+        ensures within { IfOk result (λ at. Within self.now.inner.seats (size_of (B.Bank.row self.now.bank)) seats lines at.seat) }
+        ensures provider { IfOk result (λ at. at.provider < at.seat.providers) }
     {
-        let n = self.admit::<V>(seats, lines)?;
-        locate(self.inner.seats as usize, n, seat, provider)
+        let seat = self.find_seat::<V>(seats, lines, seat)?;
+        let provider = place_of(provider, seat.providers, Refusal::NoSuchProvider)?;
+        Ok(Place { seat, provider })
     }
 
-    // The seat of a number, where the sheets have so many places.
+    // The seat of a number.
     pub(crate) fn find_seat<V: Kind>(
         &self,
         seats: usize,
@@ -40,14 +42,19 @@ impl<B> Relay<B> {
     ) -> Result<SeatPlace, Refusal>
     where
         B: Bank<V>,
-        ensures answer { numbered result ≡ seat_of (admission (option_map refusal_number self.now.inner.refused) self.now.inner.seats (size_of (B.Bank.row self.now.bank)) seats lines) self.now.inner.seats seat }
-        ensures within { IfOk result (λ at. (at.seat < self.now.inner.seats) × (at.seat < seats) × (at.seat * at.providers + at.providers ≤ self.now.inner.seats * at.providers) × (self.now.inner.seats * at.providers ≤ lines) × (at.providers ≡ size_of (B.Bank.row self.now.bank))) }
+        ensures answer { numbered result ≡ seat_of (admission_of (B.Bank.row self.now.bank) self.now.inner seats lines) self.now.inner.seats seat }
+        ensures within { IfOk result (Within self.now.inner.seats (size_of (B.Bank.row self.now.bank)) seats lines) }
     {
-        let n = self.admit::<V>(seats, lines)?;
-        locate_seat(self.inner.seats as usize, n, seat)
+        let providers = self.admit::<V>(seats, lines)?;
+        let seat = place_of(seat, self.inner.seats as usize, Refusal::NoSuchSeat)?;
+        Ok(SeatPlace {
+            seat,
+            start: seat * providers,
+            providers,
+        })
     }
 
-    // The place of the provider of a number, where the sheets have so many places.
+    // The place of the provider of a number.
     pub(crate) fn find_provider<V: Kind>(
         &self,
         seats: usize,
@@ -56,9 +63,9 @@ impl<B> Relay<B> {
     ) -> Result<usize, Refusal>
     where
         B: Bank<V>,
-        ensures { numbered result ≡ provider_of (admission (option_map refusal_number self.now.inner.refused) self.now.inner.seats (size_of (B.Bank.row self.now.bank)) seats lines) provider }
+        ensures { numbered result ≡ provider_of (admission_of (B.Bank.row self.now.bank) self.now.inner seats lines) provider }
     {
-        let n = self.admit::<V>(seats, lines)?;
-        place_of(provider, n, Refusal::NoSuchProvider)
+        let providers = self.admit::<V>(seats, lines)?;
+        place_of(provider, providers, Refusal::NoSuchProvider)
     }
 }

@@ -1,13 +1,12 @@
 // How a phase ends, once a majority of a seat's lines are done.
-ghost use Rattle.std.specs.Prelude.{◌≡◌, suc, ◌+◌, ◌*◌, ◌^◌, ◌<◌, ◌≤◌, length};
+ghost use Rattle.std.specs.Prelude.{◌≡◌, length};
 ghost use Rattle.std.specs.Option.{option_map};
 ghost use Rattle.values.specs.Rank.{rank};
 ghost use Rattle.stores.specs.Operations.{pair_means};
 ghost use Rattle.protocol.specs.Phases.{end_listing, end_gathering, end_storing, result_of, phase_result};
-ghost use Rattle.protocol.specs.Seats.{activity, is_write, is_settled};
-ghost use Rattle.protocol.specs.State.{line_at};
+ghost use Rattle.protocol.specs.Seats.{activity, is_write};
 ghost use Rattle.records.specs.Means.{seat_means};
-ghost use Rattle.relay.specs.Sheets.{lines_mean, outcome_means};
+ghost use Rattle.relay.specs.Sheets.{lines_mean, line_in, outcome_means};
 
 use crate::outcome::Outcome;
 use crate::sheets::{count_done, largest_key, newest};
@@ -31,7 +30,10 @@ fn end_listing<V: Kind>(largest: Key, seat: u16, value: V) -> Outcome<V>
         number: largest.number + 1,
         seat,
     };
-    Outcome::Stores(true, Stored { version, value })
+    Outcome::Stores {
+        write: true,
+        pair: Stored { version, value },
+    }
 }
 
 // Gathering ends: a read of nothing ends; a settled read stores what it found; a plain read ends.
@@ -40,22 +42,8 @@ fn end_gathering<V: Kind>(settled: bool, found: Option<Stored<V>>) -> Outcome<V>
 {
     match found {
         None => Outcome::Ends(Answer::Nothing),
-        Some(pair) => {
-            if settled {
-                Outcome::Stores(false, pair)
-            } else {
-                Outcome::Ends(Answer::Read(pair.version, pair.value))
-            }
-        }
-    }
-}
-
-fn is_settled(operation: OperationKind) -> bool
-    ensures { result ≡ is_settled operation }
-{
-    match operation {
-        OperationKind::SettledRead => true,
-        OperationKind::Write | OperationKind::PlainRead => false,
+        Some(pair) if settled => Outcome::Stores { write: false, pair },
+        Some(pair) => Outcome::Ends(Answer::Read(pair.version, pair.value)),
     }
 }
 
@@ -72,29 +60,27 @@ fn end_storing<V: Kind>(seat: &Seat<V>) -> Outcome<V>
     }
 }
 
-// What the seat at place s comes to when its phase ends.
-fn end_phase<V: Kind>(lines: &[Line<V>], n: usize, s: usize, seat: &Seat<V>) -> Outcome<V>
-    requires fits { s * n + n ≤ length lines.now }
-    requires few { s < 255 }
-    ensures { outcome_means V.Kind.code result ≡ result_of n (suc s) (line_at n (lines_mean V.Kind.code lines.now) s) (activity (seat_means V.Kind.code seat.now)) }
+// What a seat, by its number, comes to when its phase ends, from its own lines.
+fn end_phase<V: Kind>(own: &[Line<V>], number: u16, seat: &Seat<V>) -> Outcome<V>
+    ensures { outcome_means V.Kind.code result ≡ result_of (length own.now) number (line_in (lines_mean V.Kind.code own.now)) (activity (seat_means V.Kind.code seat.now)) }
 {
     match seat.phase {
-        Phase::Listing => end_listing(largest_key(lines, n, s), s as u16 + 1, seat.value),
-        Phase::Gathering => end_gathering(is_settled(seat.operation), newest(lines, n, s)),
+        Phase::Listing => end_listing(largest_key(own), number, seat.value),
+        Phase::Gathering => end_gathering(
+            seat.operation == OperationKind::SettledRead,
+            newest(own),
+        ),
         Phase::Storing => end_storing(seat),
-        Phase::Idle => Outcome::GoesOn,
-        Phase::Stopped => Outcome::GoesOn,
+        Phase::Idle | Phase::Stopped => Outcome::GoesOn,
     }
 }
 
-// What the seat at place s comes to: its phase ends with a majority of its lines done.
-pub(crate) fn judge<V: Kind>(lines: &[Line<V>], n: usize, s: usize, seat: &Seat<V>) -> Outcome<V>
-    requires fits { s * n + n ≤ length lines.now }
-    requires few { s < 255 }
-    ensures { outcome_means V.Kind.code result ≡ phase_result n (suc s) (line_at n (lines_mean V.Kind.code lines.now) s) (activity (seat_means V.Kind.code seat.now)) }
+// What a seat comes to: its phase ends with a majority of its lines done.
+pub(crate) fn judge<V: Kind>(own: &[Line<V>], number: u16, seat: &Seat<V>) -> Outcome<V>
+    ensures { outcome_means V.Kind.code result ≡ phase_result (length own.now) number (line_in (lines_mean V.Kind.code own.now)) (activity (seat_means V.Kind.code seat.now)) }
 {
-    if count_done(lines, n, s) < n / 2 + 1 {
+    if count_done(own) < own.len() / 2 + 1 {
         return Outcome::GoesOn;
     }
-    end_phase(lines, n, s, seat)
+    end_phase(own, number, seat)
 }

@@ -1,15 +1,13 @@
 // A request arrives at its provider.
-ghost use Rattle.std.specs.Prelude.{◌≡◌, ℕ, ◌+◌, ◌-◌, ◌*◌, ◌<◌, ◌≤◌, true, length, drop, is_err, slice_index_or};
+ghost use Rattle.std.specs.Prelude.{◌≡◌, ◌-◌, ◌*◌, ◌<◌, true, drop, is_err, slice_index_or};
 ghost use Rattle.banks.specs.Row.{has, absent, size_of};
 ghost use Rattle.protocol.specs.Answers.{land as land_call};
-ghost use Rattle.records.specs.Means.{request_means};
+ghost use Rattle.records.specs.Means.{line_means, request_means};
 ghost use Rattle.relay.specs.Effects.{Keyed, Asked, Landed};
-ghost use Rattle.relay.specs.RelayState.{relay_state, relay_step, lost_flags};
-ghost use Rattle.relay.specs.Sheets.{lines_mean, acknowledged};
+ghost use Rattle.relay.specs.RelayState.{relay_means, relay_step, lost_flags};
+ghost use Rattle.relay.specs.Sheets.{acknowledged};
 
-use crate::place::Place;
 use crate::relay::Relay;
-use crate::sheets::{read_line, write_line};
 use banks::bank::Bank;
 use records::key_list::KeyList;
 use records::line::{Line, Reply, Request, Transit};
@@ -39,20 +37,10 @@ fn ask<V: Kind, B: Bank<V>>(
     ensures { Asked V.Kind.code (request_means V.Kind.code request) (i - 1) (slice_index_or (B.Bank.row bank.old) (i - 1) absent) (B.Bank.row bank.old) result (B.Bank.row bank.new) }
 {
     match request {
-        Request::List => {
-            let keys = ask_keys::<V, B>(bank, i)?;
-            Ok(Ok(Reply::Keys(keys)))
-        }
-        Request::Get(key) => {
-            let found = bank.get(i, key)?;
-            Ok(Ok(Reply::Got(found)))
-        }
-        Request::Put(key, pair) => {
-            let Stored { version, value } = pair;
-            match bank.put(i, key, version, value) {
-                Ok(()) => Ok(Ok(Reply::Done)),
-                Err(refusal) => Ok(Err(refusal)),
-            }
+        Request::List => Ok(Ok(Reply::Keys(ask_keys::<V, B>(bank, i)?))),
+        Request::Get(key) => Ok(Ok(Reply::Got(bank.get(i, key)?))),
+        Request::Put(key, Stored { version, value }) => {
+            Ok(bank.put(i, key, version, value).map(|()| Reply::Done))
         }
         Request::Remove(key) => {
             bank.remove(i, key)?;
@@ -72,37 +60,33 @@ impl<B> Relay<B> {
     ) -> Result<(), Refusal>
     where
         B: Bank<V>,
-        ensures step { (relay_state V.Kind.code (B.Bank.row self.new.bank) self.new.inner seats.now lines.new, acknowledged result) ≡ relay_step (relay_state V.Kind.code (B.Bank.row self.old.bank) self.old.inner seats.now lines.old) (land_call seat provider) }
+        ensures step { (relay_means V.Kind.code B.Bank.row self.new seats.now lines.new, acknowledged result) ≡ relay_step (relay_means V.Kind.code B.Bank.row self.old seats.now lines.old) (land_call seat provider) }
         ensures beyond { drop (self.old.inner.seats * size_of (B.Bank.row self.old.bank)) lines.new ≡ drop (self.old.inner.seats * size_of (B.Bank.row self.old.bank)) lines.old }
         ensures refusal { is_err result ≡ true → lines.new ≡ lines.old }
         ensures inner { self.new.inner ≡ self.old.inner }
     {
         let at = self.find::<V>(seats.len(), lines.len(), seat, provider)?;
-        self.land_line(lines, at)
+        self.land_line(&mut lines[at.seat.start + at.provider], at.provider)
     }
 
-    fn land_line<V: Kind>(&mut self, lines: &mut [Line<V>], at: Place) -> Result<(), Refusal>
+    // A line's request is carried out at the provider of place i, and the line has its answer.
+    fn land_line<V: Kind>(&mut self, line: &mut Line<V>, i: usize) -> Result<(), Refusal>
     where
         B: Bank<V>,
-        requires provider { at.provider < at.providers }
-        requires providers { at.providers ≤ length (B.Bank.row self.old.bank) }
-        requires line { at.seat * at.providers + at.providers ≤ length lines.old }
-        ensures landed { Landed at (lost_flags self.old.inner) (B.Bank.row self.old.bank) (lines_mean V.Kind.code lines.old) (acknowledged result) (B.Bank.row self.new.bank) (lines_mean V.Kind.code lines.new) }
-        ensures beyond { (j : ℕ) → at.seat * at.providers + at.providers ≤ j → drop j lines.new ≡ drop j lines.old }
-        ensures refusal { is_err result ≡ true → lines.new ≡ lines.old }
+        requires { i < size_of (B.Bank.row self.old.bank) }
+        ensures landed { Landed i (lost_flags self.old.inner) (B.Bank.row self.old.bank) (line_means V.Kind.code line.old) (acknowledged result) (B.Bank.row self.new.bank) (line_means V.Kind.code line.new) }
+        ensures refusal { is_err result ≡ true → line.new ≡ line.old }
         ensures inner { self.new.inner ≡ self.old.inner }
     {
-        if self.inner.is_lost(at.provider) {
+        if self.inner.is_lost(i) {
             return Err(Refusal::ProviderLost);
         }
-        let k = at.seat * at.providers + at.provider;
-        let line = read_line(lines, k);
-        match line.transit {
-            Transit::Free => Err(Refusal::LineNotSent),
-            Transit::Answered => Err(Refusal::LineNotSent),
-            Transit::Sent => {
-                let answer = ask::<V, B>(&mut self.bank, at.provider + 1, line.request)?;
-                write_line(lines, k, line.answered(answer));
+        let transit = line.transit;
+        match transit {
+            Transit::Free | Transit::Answered { .. } => Err(Refusal::LineNotSent),
+            Transit::Sent { stale, request } => {
+                let answer = ask::<V, B>(&mut self.bank, i + 1, request)?;
+                *line = line.answered(stale, answer);
                 Ok(())
             }
         }

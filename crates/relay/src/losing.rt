@@ -1,10 +1,9 @@
 // Providers that are lost, the count of second looks, and the end of a relay.
-ghost use Rattle.std.specs.Prelude.{◌≡◌, true, false, is_err, slice_index_or};
+ghost use Rattle.std.specs.Prelude.{◌≡◌, true, false, is_err, slice_index_or, slice_set};
 ghost use Rattle.std.specs.Option.{option_map};
 ghost use Rattle.values.specs.Refusals.{numbered, refusal_number};
 ghost use Rattle.protocol.specs.Answers.{lose as lose_call};
-ghost use Rattle.relay.specs.RelayState.{relay_state, relay_step, lost_flags, looks_answer};
-ghost use Rattle.relay.specs.Effects.{LostAt};
+ghost use Rattle.relay.specs.RelayState.{relay_means, relay_step, lost_flags, looks_answer};
 ghost use Rattle.relay.specs.Sheets.{acknowledged};
 
 use crate::inner::{Inner, ProviderRecord};
@@ -18,7 +17,7 @@ use values::refusal::Refusal;
 impl ProviderRecord {
     // The provider is lost for good.
     pub(crate) fn lose(&mut self)
-        ensures { self.new.lost ≡ true }
+        ensures { self.new ≡ record { lost = true } }
     {
         self.lost = true;
     }
@@ -29,21 +28,15 @@ impl Inner {
     pub(crate) fn is_lost(&self, i: usize) -> bool
         ensures { result ≡ slice_index_or (lost_flags self.now) i false }
     {
-        let providers: &[ProviderRecord] = &self.providers;
-        if i < providers.len() {
-            providers[i].lost
-        } else {
-            false
-        }
+        self.providers.get(i).is_some_and(|provider| provider.lost)
     }
 
-    // The provider at a place is lost for good.
+    // The provider at a place is lost for good. (By index, as a proof knows nothing of what is written through `get_mut`.)
     pub(crate) fn lose(&mut self, i: usize)
-        ensures { LostAt i self.old self.new }
+        ensures { self.new ≡ record self.old { providers = slice_set self.old.providers i (record { lost = true }) } }
     {
-        let providers: &mut [ProviderRecord] = &mut self.providers;
-        if i < providers.len() {
-            providers[i].lose();
+        if i < self.providers.len() {
+            self.providers[i].lose();
         }
     }
 }
@@ -58,7 +51,7 @@ impl<B> Relay<B> {
     ) -> Result<(), Refusal>
     where
         B: Bank<V>,
-        ensures step { (relay_state V.Kind.code (B.Bank.row self.new.bank) self.new.inner seats.now lines.now, acknowledged result) ≡ relay_step (relay_state V.Kind.code (B.Bank.row self.old.bank) self.old.inner seats.now lines.now) (lose_call provider) }
+        ensures step { (relay_means V.Kind.code B.Bank.row self.new seats.now lines.now, acknowledged result) ≡ relay_step (relay_means V.Kind.code B.Bank.row self.old seats.now lines.now) (lose_call provider) }
         ensures refusal { is_err result ≡ true → self.new.inner ≡ self.old.inner }
     {
         let i = self.find_provider::<V>(seats.len(), lines.len(), provider)?;

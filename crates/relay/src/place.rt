@@ -1,14 +1,15 @@
-// A line's place: the number of providers, and its seat and its provider, counted from 0.
-#[derive(Clone, Copy)]
-pub struct Place {
-    pub providers: usize,
-    pub seat: usize,
-    pub provider: usize,
-}
-
-// A seat's place: the number of providers, and the seat, counted from 0.
+// A seat's place in the sheets: the seat, counted from 0, where its lines start, and how many they are, one for each
+// provider.
 #[derive(Clone, Copy)]
 pub struct SeatPlace {
-    pub providers: usize,
     pub seat: usize,
+    pub start: usize,
+    pub providers: usize,
+}
+
+// A line's place: that of its seat, and the provider, counted from 0.
+#[derive(Clone, Copy)]
+pub struct Place {
+    pub seat: SeatPlace,
+    pub provider: usize,
 }

@@ -1,60 +1,44 @@
-// The steps of the calls on the sheets, once seat and provider are known to be there. Seats and providers count from 0.
-ghost use Rattle.std.specs.Prelude.{◌≡◌, ℕ, suc, ◌+◌, ◌*◌, ◌<◌, ◌≤◌, true, List, length, drop, is_ok, is_err, if◌then◌else◌, slice_index_or, slice_set};
+// The steps of the calls on one seat and its own lines, once these are known to be there.
+ghost use Rattle.std.specs.Prelude.{◌≡◌, ℕ, ◌<◌, true, map, length, is_ok, is_err, if◌then◌else◌};
+ghost use Rattle.protocol.specs.Lines.{restart_line};
 ghost use Rattle.protocol.specs.Phases.{phase_result};
-ghost use Rattle.protocol.specs.Seats.{activity, blank_seat, turned_to};
-ghost use Rattle.protocol.specs.State.{line_at, restart_lines};
-ghost use Rattle.protocol.specs.Steps.{post_line, begin_at, conclude as conclude_as, unless_full, take_answer as take_as, stop_at};
+ghost use Rattle.protocol.specs.Seats.{activity, stopped, turned_to};
+ghost use Rattle.protocol.specs.Steps.{post_line, begin_at, conclude as conclude_as, unless_full, take_answer as take_as};
 ghost use Rattle.values.specs.Refusals.{numbered};
-ghost use Rattle.records.specs.Means.{progress_means, answer_means, accepted_as, told, seat_means};
-ghost use Rattle.records.specs.declared.line.Line.{Line as SheetLine};
-ghost use Rattle.relay.specs.Checks.{post_check};
-ghost use Rattle.relay.specs.Effects.{Beyond, Steps, beginning_means};
-ghost use Rattle.relay.specs.Sheets.{seats_mean, lines_mean, acknowledged, outcome_means, fetch_on};
+ghost use Rattle.records.specs.Means.{progress_means, answer_means, accepted_as, told, line_means, seat_means};
+ghost use Rattle.relay.specs.Checks.{post_check, stop_check};
+ghost use Rattle.relay.specs.Effects.{Steps, beginning_means};
+ghost use Rattle.relay.specs.Sheets.{lines_mean, line_in, acknowledged, outcome_means, fetch_on};
 
 use crate::beginning::Beginning;
-use crate::checks::{may_begin, may_fetch, may_post};
+use crate::checks::{may_begin, may_post};
 use crate::judging::judge;
 use crate::outcome::Outcome;
-use crate::place::Place;
-use crate::sheets::{read_line, read_seat, restart, write_line, write_seat};
+use crate::sheets::restart;
 use records::answer::Answer;
-use records::line::{Line, Reply};
+use records::line::{Line, Reply, Transit};
 use records::seat::Seat;
 use values::kind::Kind;
 use values::refusal::Refusal;
 
-// The seat's line gets its stage's request, and is sent.
-pub(crate) fn post_line<V: Kind>(
-    seats: &[Seat<V>],
-    lines: &mut [Line<V>],
-    at: Place,
-) -> Result<(), Refusal>
-    requires seat { at.seat < length seats.now }
-    requires line { at.seat * at.providers + at.provider < length lines.old }
-    ensures answer { numbered result ≡ post_check (activity (slice_index_or (seats_mean V.Kind.code seats.now) at.seat blank_seat)) (line_at at.providers (lines_mean V.Kind.code lines.old) at.seat at.provider) }
-    ensures means { lines_mean V.Kind.code lines.new ≡ (if is_ok result then slice_set (lines_mean V.Kind.code lines.old) (at.seat * at.providers + at.provider) (post_line (activity (slice_index_or (seats_mean V.Kind.code seats.now) at.seat blank_seat)) (line_at at.providers (lines_mean V.Kind.code lines.old) at.seat at.provider)) else lines_mean V.Kind.code lines.old) }
-    ensures beyond { (j : ℕ) → at.seat * at.providers + at.provider < j → drop j lines.new ≡ drop j lines.old }
-    ensures refusal { is_err result ≡ true → lines.new ≡ lines.old }
+// A seat's line gets its stage's request, and is sent.
+pub(crate) fn post_line<V: Kind>(seat: &Seat<V>, line: &mut Line<V>) -> Result<(), Refusal>
+    ensures answer { numbered result ≡ post_check (activity (seat_means V.Kind.code seat.now)) (line_means V.Kind.code line.old) }
+    ensures means { line_means V.Kind.code line.new ≡ (if is_ok result then post_line (activity (seat_means V.Kind.code seat.now)) (line_means V.Kind.code line.old) else line_means V.Kind.code line.old) }
+    ensures refusal { is_err result ≡ true → line.new ≡ line.old }
 {
-    let k = at.seat * at.providers + at.provider;
-    let seat = read_seat(seats, at.seat);
-    let line = read_line(lines, k);
-    may_post(&seat, &line)?;
-    let request = line.request_of(&seat);
-    write_line(lines, k, line.sent(request));
+    may_post(seat, line)?;
+    *line = line.sent(line.request_of(seat));
     Ok(())
 }
 
 // A seat gets another record, and its lines restart.
-fn turn<V: Kind>(seats: &mut [Seat<V>], lines: &mut [Line<V>], n: usize, s: usize, seat: Seat<V>)
-    requires seat { s < length seats.old }
-    requires line { s * n + n ≤ length lines.old }
-    ensures seats { seats_mean V.Kind.code seats.new ≡ slice_set (seats_mean V.Kind.code seats.old) s (seat_means V.Kind.code seat) }
-    ensures lines { lines_mean V.Kind.code lines.new ≡ restart_lines n n s (lines_mean V.Kind.code lines.old) }
-    ensures beyond { Beyond s (s * n + n) seats.old lines.old seats.new lines.new }
+fn turn<V: Kind>(seat: &mut Seat<V>, own: &mut [Line<V>], next: Seat<V>)
+    ensures seat { seat.new ≡ next }
+    ensures lines { lines_mean V.Kind.code own.new ≡ map restart_line (lines_mean V.Kind.code own.old) }
 {
-    write_seat(seats, s, seat);
-    restart(lines, n, s);
+    *seat = next;
+    restart(own);
 }
 
 impl<V: Kind> Beginning<V> {
@@ -71,135 +55,111 @@ impl<V: Kind> Beginning<V> {
 
 // A seat begins an operation.
 pub(crate) fn begin<V: Kind>(
-    seats: &mut [Seat<V>],
-    lines: &mut [Line<V>],
-    n: usize,
-    s: usize,
+    seat: &mut Seat<V>,
+    own: &mut [Line<V>],
     what: Beginning<V>,
 ) -> Result<(), Refusal>
-    requires seat { s < length seats.old }
-    requires line { s * n + n ≤ length lines.old }
-    ensures step { (looks : ℕ) → Steps V.Kind.code (begin_at n s (beginning_means V.Kind.code what)) seats.old lines.old looks seats.new lines.new looks (acknowledged result) }
-    ensures beyond { Beyond s (s * n + n) seats.old lines.old seats.new lines.new }
-    ensures refusal { is_err result ≡ true → (seats.new ≡ seats.old) × (lines.new ≡ lines.old) }
+    ensures step { (s : ℕ) (looks : ℕ) → Steps V.Kind.code s (begin_at (length own.old) s (beginning_means V.Kind.code what)) seat.old own.old looks seat.new own.new looks (acknowledged result) }
+    ensures refusal { is_err result ≡ true → (seat.new ≡ seat.old) × (own.new ≡ own.old) }
 {
-    let seat = read_seat(seats, s);
-    may_begin(&seat)?;
-    turn(seats, lines, n, s, what.of(seat));
+    may_begin(seat)?;
+    turn(seat, own, what.of(*seat));
     Ok(())
 }
 
 // What becomes of a seat and its lines, and what the call answers.
-fn conclude<V: Kind>(
-    seats: &mut [Seat<V>],
-    lines: &mut [Line<V>],
-    n: usize,
-    s: usize,
-    seat: Seat<V>,
-    outcome: Outcome<V>,
-) -> Answer<V>
-    requires seat { s < length seats.old }
-    requires line { s * n + n ≤ length lines.old }
-    requires is { seat_means V.Kind.code seat ≡ slice_index_or (seats_mean V.Kind.code seats.old) s blank_seat }
-    ensures step { (looks : ℕ) → Steps V.Kind.code (conclude_as n s (outcome_means V.Kind.code outcome)) seats.old lines.old looks seats.new lines.new looks (accepted_as V.Kind.code result) }
-    ensures beyond { Beyond s (s * n + n) seats.old lines.old seats.new lines.new }
+fn conclude<V: Kind>(seat: &mut Seat<V>, own: &mut [Line<V>], outcome: Outcome<V>) -> Answer<V>
+    ensures { (s : ℕ) (looks : ℕ) → Steps V.Kind.code s (conclude_as (length own.old) s (outcome_means V.Kind.code outcome)) seat.old own.old looks seat.new own.new looks (accepted_as V.Kind.code result) }
 {
     match outcome {
         Outcome::GoesOn => Answer::On,
         Outcome::Ends(answer) => {
-            turn(seats, lines, n, s, seat.rested());
+            turn(seat, own, seat.rested());
             answer
         }
-        Outcome::Stores(write, pair) => {
-            turn(seats, lines, n, s, seat.storing(write, pair));
+        Outcome::Stores { write, pair } => {
+            turn(seat, own, seat.storing(write, pair));
             Answer::On
         }
     }
 }
 
-// What the seat comes to. A put that was refused for want of room leaves everything where it is.
+// What a seat comes to. A put that was refused for want of room leaves everything where it is.
 fn outcome_of<V: Kind>(
-    lines: &[Line<V>],
-    n: usize,
-    s: usize,
+    own: &[Line<V>],
+    number: u16,
     seat: &Seat<V>,
     answer: Result<Reply<V>, Refusal>,
 ) -> Outcome<V>
-    requires fits { s * n + n ≤ length lines.now }
-    requires few { s < 255 }
-    ensures { outcome_means V.Kind.code result ≡ unless_full (answer_means V.Kind.code answer) (phase_result n (suc s) (line_at n (lines_mean V.Kind.code lines.now) s) (activity (seat_means V.Kind.code seat.now))) }
+    ensures { outcome_means V.Kind.code result ≡ unless_full (answer_means V.Kind.code answer) (phase_result (length own.now) number (line_in (lines_mean V.Kind.code own.now)) (activity (seat_means V.Kind.code seat.now))) }
 {
     match answer {
         Err(_) => Outcome::GoesOn,
-        Ok(Reply::Keys(_)) => judge(lines, n, s, seat),
-        Ok(Reply::Got(_)) => judge(lines, n, s, seat),
-        Ok(Reply::Done) => judge(lines, n, s, seat),
+        Ok(_) => judge(own, number, seat),
     }
 }
 
-// The answer of a line is taken: the line moves, and with it perhaps its seat.
+// An answer of seat s's line at place i is taken: the line moves, and with it perhaps its seat.
 fn take_answer<V: Kind>(
-    seats: &mut [Seat<V>],
-    lines: &mut [Line<V>],
+    seat: &mut Seat<V>,
+    own: &mut [Line<V>],
     looks: &mut u32,
-    at: Place,
-    seat: Seat<V>,
+    s: u8,
+    i: usize,
     line: Line<V>,
+    answer: Result<Reply<V>, Refusal>,
 ) -> Answer<V>
-    requires seat { at.seat < length seats.old }
-    requires few { at.seat < 255 }
-    requires provider { at.provider < at.providers }
-    requires line { at.seat * at.providers + at.providers ≤ length lines.old }
-    requires is { seat_means V.Kind.code seat ≡ slice_index_or (seats_mean V.Kind.code seats.old) at.seat blank_seat }
-    ensures step { Steps V.Kind.code (take_as at.providers at.seat at.provider (activity (seat_means V.Kind.code seat)) (answer_means V.Kind.code line.answer) (progress_means V.Kind.code line)) seats.old lines.old looks.old seats.new lines.new looks.new (accepted_as V.Kind.code result) }
-    ensures beyond { Beyond at.seat (at.seat * at.providers + at.providers) seats.old lines.old seats.new lines.new }
+    requires { i < length own.old }
+    ensures { Steps V.Kind.code s (take_as (length own.old) s i (activity (seat_means V.Kind.code seat.old)) (answer_means V.Kind.code answer) (progress_means V.Kind.code line)) seat.old own.old looks.old seat.new own.new looks.new (accepted_as V.Kind.code result) }
 {
-    let n = at.providers;
-    let s = at.seat;
-    let next = line.advanced(&seat);
-    write_line(lines, s * n + at.provider, next);
+    let next = line.advanced(seat, answer);
+    own[i] = next;
     *looks = line.looks_after(&next, *looks);
-    let outcome = outcome_of(lines, n, s, &seat, line.answer);
-    conclude(seats, lines, n, s, seat, outcome)
+    let outcome = outcome_of(own, s as u16 + 1, seat, answer);
+    conclude(seat, own, outcome)
 }
 
-// The answer of a line is fetched, or dropped if it is stale.
+// The answer of seat s's line at place i is fetched, or dropped if it is stale.
 pub(crate) fn fetch_line<V: Kind>(
-    seats: &mut [Seat<V>],
-    lines: &mut [Line<V>],
+    seat: &mut Seat<V>,
+    own: &mut [Line<V>],
     looks: &mut u32,
-    at: Place,
+    s: u8,
+    i: usize,
 ) -> Result<Answer<V>, Refusal>
-    requires seat { at.seat < length seats.old }
-    requires few { at.seat < 255 }
-    requires provider { at.provider < at.providers }
-    requires line { at.seat * at.providers + at.providers ≤ length lines.old }
-    ensures step { Steps V.Kind.code (fetch_on at.providers at.seat at.provider) seats.old lines.old looks.old seats.new lines.new looks.new (told V.Kind.code result) }
-    ensures beyond { Beyond at.seat (at.seat * at.providers + at.providers) seats.old lines.old seats.new lines.new }
-    ensures refusal { is_err result ≡ true → (seats.new ≡ seats.old) × (lines.new ≡ lines.old) × (looks.new ≡ looks.old) }
+    requires { i < length own.old }
+    ensures step { Steps V.Kind.code s (fetch_on (length own.old) s i) seat.old own.old looks.old seat.new own.new looks.new (told V.Kind.code result) }
+    ensures refusal { is_err result ≡ true → (seat.new ≡ seat.old) × (own.new ≡ own.old) × (looks.new ≡ looks.old) }
 {
-    let seat = read_seat(seats, at.seat);
-    let k = at.seat * at.providers + at.provider;
-    let line = read_line(lines, k);
-    let stale = may_fetch(&seat, &line)?;
-    if stale {
-        write_line(lines, k, line.freed());
-        return Ok(Answer::Dropped);
-    }
-    Ok(take_answer(seats, lines, looks, at, seat, line))
-}
-
-// A seat stops for good.
-pub(crate) fn stop_seat<V: Kind>(seats: &mut [Seat<V>], s: usize) -> Result<(), Refusal>
-    requires seat { s < length seats.old }
-    ensures step { (lines : List (SheetLine V)) (looks : ℕ) → Steps V.Kind.code (stop_at s) seats.old lines looks seats.new lines looks (acknowledged result) }
-    ensures beyond { (j : ℕ) → s < j → drop j seats.new ≡ drop j seats.old }
-    ensures refusal { is_err result ≡ true → seats.new ≡ seats.old }
-{
-    let seat = read_seat(seats, s);
     if seat.is_stopped() {
         return Err(Refusal::SeatStopped);
     }
-    write_seat(seats, s, seat.stopped());
+    let line = own[i];
+    let transit = line.transit;
+    match transit {
+        Transit::Free | Transit::Sent { .. } => Err(Refusal::NoAnswer),
+        Transit::Answered { stale, answer } => {
+            if stale {
+                own[i] = line.freed();
+                return Ok(Answer::Dropped);
+            }
+            if line.foreign(seat) {
+                return Err(Refusal::NoAnswer);
+            }
+            Ok(take_answer(seat, own, looks, s, i, line, answer))
+        }
+    }
+}
+
+// A seat stops for good.
+pub(crate) fn stop_seat<V: Kind>(seat: &mut Seat<V>) -> Result<(), Refusal>
+    ensures answer { numbered result ≡ stop_check (activity (seat_means V.Kind.code seat.old)) }
+    ensures means { seat_means V.Kind.code seat.new ≡ (if is_ok result then turned_to stopped (seat_means V.Kind.code seat.old) else seat_means V.Kind.code seat.old) }
+    ensures refusal { is_err result ≡ true → seat.new ≡ seat.old }
+{
+    if seat.is_stopped() {
+        return Err(Refusal::SeatStopped);
+    }
+    *seat = seat.stopped();
     Ok(())
 }

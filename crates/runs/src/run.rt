@@ -1,4 +1,4 @@
-ghost use Rattle.std.specs.Prelude.{◌≡◌, ◌<◌, true, length, is_some, is_ok, is_err, slice_index_or, slice_set};
+ghost use Rattle.std.specs.Prelude.{◌≡◌, ◌<◌, true, length, is_some, is_ok, is_err};
 ghost use Rattle.values.specs.Refusals.{numbered};
 ghost use Rattle.banks.specs.Row.{size_of};
 ghost use Rattle.protocol.specs.Law.{Lawful};
@@ -6,38 +6,16 @@ ghost use Rattle.relay.specs.Effects.{BeyondAll};
 ghost use Rattle.relay.specs.Opening.{open_check, opened};
 ghost use Rattle.relay.specs.RelayState.{relay_state};
 ghost use Rattle.relay.specs.Sheets.{seats_mean, lines_mean};
-ghost use Rattle.runs.specs.Runs.{calls_in, answers_in, calls_mean, answers_mean, run_answers, run_end};
+ghost use Rattle.runs.specs.Runs.{calls_in, calls_mean, answers_mean, run_answers, run_end};
 
 use banks::bank::Bank;
-use records::answer::Answer;
-use records::call::{Call, Exchange};
+use records::call::Exchange;
 use records::line::Line;
 use records::seat::Seat;
 use relay::opening::open;
 use relay::relay::Relay;
 use values::kind::Kind;
 use values::refusal::Refusal;
-
-// The call at a place.
-fn call_at<V: Kind>(exchanges: &[Exchange<V>], k: usize) -> Call<V>
-    requires { k < length exchanges.now }
-    ensures { result ≡ slice_index_or (calls_in exchanges.now) k result }
-{
-    exchanges[k].call
-}
-
-// Writes an answer beside the call at a place.
-fn write_answer<V: Kind>(
-    exchanges: &mut [Exchange<V>],
-    k: usize,
-    answer: Result<Answer<V>, Refusal>,
-)
-    requires { k < length exchanges.old }
-    ensures calls { calls_in exchanges.new ≡ calls_in exchanges.old }
-    ensures answers { answers_in exchanges.new ≡ slice_set (answers_in exchanges.old) k answer }
-{
-    exchanges[k].answer = answer;
-}
 
 // Makes the calls, in their order, and writes each answer beside its call.
 fn make_calls<V: Kind, B: Bank<V>>(
@@ -52,10 +30,9 @@ fn make_calls<V: Kind, B: Bank<V>>(
     ensures beyond { BeyondAll relay.old.inner.seats (size_of (B.Bank.row relay.old.bank)) seats.old lines.old seats.new lines.new }
     ensures refusal { is_some relay.old.inner.refused ≡ true → (seats.new ≡ seats.old) × (lines.new ≡ lines.old) × (relay.new.inner ≡ relay.old.inner) }
 {
-    for k in 0..exchanges.len() {
-        let call = call_at(exchanges, k);
-        let answer = relay.call(seats, lines, call);
-        write_answer(exchanges, k, answer);
+    for exchange in exchanges.iter_mut() {
+        let answer = relay.call(seats, lines, exchange.call);
+        exchange.answer = answer;
     }
 }
 
@@ -77,7 +54,6 @@ pub fn run<V: Kind, B: Bank<V>>(
     ensures refusal { is_err result.1 ≡ true → (seats.new ≡ seats.old) × (lines.new ≡ lines.old) }
     ensures lawful { is_ok result.1 ≡ true → Lawful m (length (B.Bank.row bank)) (calls_mean V.Kind.code exchanges.old) (answers_mean V.Kind.code exchanges.new) (relay_state V.Kind.code (B.Bank.row result.0.bank) result.0.inner seats.new lines.new).state }
 {
-    bank.lawful();
     let (mut relay, accepted) = open(bank, m, seats, lines);
     make_calls(&mut relay, seats, lines, exchanges);
     (relay, accepted)

@@ -1,15 +1,6 @@
-use Rattle.std.proofs.Common.{◌≡◌, ap, ◌∙◌, arith}
-use Rattle.protocol.specs.Phases.{largest_listed}
-use Rattle.protocol.specs.State.{line_at}
 use Rattle.records.specs.Means.{line_means}
-use Rattle.relay.specs.Sheets.{lines_mean}
-use Rattle.relay.proofs.Tallies.{key_more}
+use Rattle.relay.proofs.Own.{key_more}
 use Rattle.relay.proofs.sheets.largest_key.Goals as goal
 
-pub loop-i-preserved : goal.loop-i-preserved
-loop-i-preserved g c = key_more (lines_mean g.V.Kind.code c.args.lines.now) c.args.n c.args.s c.loop-i.i (line_means g.V.Kind.code c.read_line.result) c.read_line.ensures _ _ _ c.loop-i.invariant c.counted_key.ensures c.later-best.ensures
-
-pub returns : goal.returns
-returns g c =
-    let e : c.loop-i.i ≡ c.args.n = omega arith in
-    c.loop-i.invariant ∙ ap (largest_listed (line_at c.args.n (lines_mean g.V.Kind.code c.args.lines.now) c.args.s)) e
+pub loop-line-preserved : goal.loop-line-preserved
+loop-line-preserved g c = key_more (line_means g.V.Kind.code) c.args.own.now c.loop-line.line-index c.line-item.result c.loop-line-test.true c.line-item.is _ _ _ c.loop-line.invariant c.counted_key.ensures c.later-best.ensures

@@ -1,19 +1,17 @@
-use Rattle.std.proofs.Common.{◌≡◌, refl, ap, ◌∙◌, arith}
-use Rattle.protocol.specs.State.{restart_lines}
+use Rattle.std.proofs.Common.{set, sym, ap, ◌∙◌, arith}
+use Rattle.std.proofs.lemmas.List.{map-set, get_or-map, length-map}
+use Rattle.std.proofs.lemmas.List.Edits.{map_over_more}
+use Rattle.protocol.specs.Lines.{restart_line}
+use Rattle.records.specs.Means.{line_means}
 use Rattle.relay.specs.Sheets.{lines_mean}
-use Rattle.relay.proofs.Reading.{restart_more}
 use Rattle.relay.proofs.sheets.restart.Goals as goal
 
-pub loop-i-init : goal.loop-i-init
-loop-i-init g c = (refl, λ j le. refl)
-
-pub loop-i-preserved : goal.loop-i-preserved
-loop-i-preserved g c = (
-  restart_more _ _ _ _ _ _ _ _ c.loop-i.invariant.0 c.read_line-line.ensures c.restarted.ensures c.write_line.ensures.means,
-  λ j le. c.write_line.ensures.beyond j (omega arith) ∙ c.loop-i.invariant.1 j le,
-)
-
-pub returns : goal.returns
-returns g c =
-    let e : c.loop-i.i ≡ c.args.n = omega arith in
-    record { means = c.loop-i.invariant.0 ∙ ap (λ k. restart_lines k c.args.n c.args.s (lines_mean g.V.Kind.code c.args.lines.now)) e; beyond = c.loop-i.invariant.1 }
+pub loop-line-preserved : goal.loop-line-preserved
+loop-line-preserved g c =
+    let f = line_means g.V.Kind.code in
+    let i = c.loop-line.line-index in
+    let x = c.line-item.result in
+    let is = sym (get_or-map f c.loop-line.own i x (f x) (omega (arith, c.loop-line.auto.own)) ∙ ap f (sym c.line-item.is)) in
+    map-set f c.loop-line.own i c.restarted.result
+    ∙ (ap (set (lines_mean g.V.Kind.code c.loop-line.own) i) (c.restarted.ensures ∙ ap (λ l. restart_line (f l)) (sym c.line-item.is))
+    ∙ map_over_more restart_line (lines_mean g.V.Kind.code c.args.own.now) (lines_mean g.V.Kind.code c.loop-line.own) i (f x) (omega (arith, length-map c.args.own.now f)) c.loop-line.invariant is)

@@ -1,67 +1,49 @@
-use Rattle.std.proofs.Common.{◌+◌, ◌*◌, List, set, Ok, sym, refl, ap, ◌∙◌, ap₂, arith}
-use Rattle.std.proofs.lemmas.Bool.{false≢true}
-use Rattle.values.specs.Refusals.{refusal_number}
-use Rattle.protocol.specs.Answers as ans
-use Rattle.protocol.specs.Lines as lin
-use Rattle.protocol.specs.Seats as sea
+use Rattle.std.proofs.Common.{◌≡◌, ℕ, ◌*◌, ◌<◌, List, ⊎_elim, length, get_or, set, ap, ◌∙◌, rules}
+use Rattle.std.proofs.lemmas.List.{length-map, map-set}
+use Rattle.protocol.specs.Answers.{dropped}
+use Rattle.protocol.specs.Lines.{blank_line}
 use Rattle.protocol.specs.Seats.{activity}
-use Rattle.protocol.specs.State.{State}
 use Rattle.protocol.specs.Steps.{fetch_at}
-use Rattle.records.specs.Means.{line_means, answer_means, told, seat_means}
-use Rattle.relay.specs.Sheets.{sheets_state, seats_mean, lines_mean}
-use Rattle.relay.proofs.Exits.{refused_as}
-use Rattle.relay.proofs.Stepping.{fetch_refused, fetch_dropped, fetch_taken, fetchable, answer_of}
+use Rattle.records.specs.Means.{line_means, progress_means, seat_means}
+use Rattle.records.specs.declared.line.Line.{Line}
+use Rattle.records.specs.declared.seat.Seat.{Seat}
+use Rattle.relay.specs.Effects.{Others, among}
+use Rattle.relay.specs.Sheets.{lines_mean, fetch_on}
+use Rattle.relay.proofs.Among.{freed_among, fetch_among}
+use Rattle.relay.proofs.Own.{read_at}
 use Rattle.relay.proofs.steps.fetch_line.Goals as goal
 
-pub returns-in_err-stale : goal.returns-in_err-stale
-returns-in_err-stale g c =
-    let code = g.V.Kind.code in
-    let q = seat_means code c.read_seat-seat.result in
-    let l = line_means code c.read_line-line.result in
-    record {
-      step = λ row lost.
-          let C = sheets_state code c.args.seats.now c.args.lines.now row lost c.args.looks.now in
-          let f : sea.Seat → lin.Line → State × ans.Answer = λ q l. fetch_at c.args.at.providers c.args.at.seat c.args.at.provider (activity q) l C in
-          refused_as C (told code) c.in_err-stale.field-0.0 _ _ c.from_residual.ensures.1 (fetch_refused c.args.at.providers c.args.at.seat c.args.at.provider (activity q) C l (refusal_number c.in_err-stale.field-0.0) c.in_err-stale.ensures
-          ∙ ap₂ f c.read_seat-seat.ensures c.read_line-line.ensures);
-      beyond = record { seats = λ j lt. refl; lines = λ j le. refl };
-      refusal = λ _. (refl, refl, refl);
-    }
+-- the step of a line that is read among a seat's own lines
+module _ {V : Type 0} (code : V → List ℕ) (o : Others) (s i looks : ℕ) (seat : Seat V) (own : List (Line V)) (line : Line V) (within : s < length o.seats) (starts : length o.before ≡ s * length own) (lt : i < length own) (is : line ≡ get_or own i line) where
+  fetched : fetch_at (length own) s i (activity (seat_means code seat)) (line_means code line) (among o s (seat_means code seat) (lines_mean code own) looks) ≡ fetch_on (length own) s i (among o s (seat_means code seat) (lines_mean code own) looks)
+  fetched = fetch_among o (length own) s (seat_means code seat) (lines_mean code own) looks within starts (length-map own (line_means code)) i (line_means code line) lt (read_at (line_means code) blank_line own i line lt is)
 
-pub returns-then-stale : goal.returns-then-stale
-returns-then-stale g c =
-    let code = g.V.Kind.code in
-    let q = seat_means code c.read_seat-seat.result in
-    let l = line_means code c.read_line-line.result in
-    let k = c.args.at.seat * c.args.at.providers + c.args.at.provider in
-    let lines = c.write_line.ensures.means ∙ ap (set (lines_mean code c.args.lines.now) k) c.freed.ensures in
-    record {
-      step = λ row lost.
-          let C = sheets_state code c.args.seats.now c.args.lines.now row lost c.args.looks.now in
-          let f : sea.Seat → lin.Line → State × ans.Answer = λ q l. fetch_at c.args.at.providers c.args.at.seat c.args.at.provider (activity q) l C in
-          let h : List lin.Line → State × ans.Answer = λ ls. (record { seats = seats_mean code c.args.seats.now; lines = ls; row = row; lost = lost; looks = c.args.looks.now }, ans.dropped) in
-          ap h lines
-          ∙ (fetch_dropped c.args.at.providers c.args.at.seat c.args.at.provider (activity q) C l (ap Ok (sym c.if-stale.true) ∙ c.in_ok-stale.ensures)
-          ∙ ap₂ f c.read_seat-seat.ensures c.read_line-line.ensures);
-      beyond = record { seats = λ j lt. refl; lines = λ j le. c.write_line.ensures.beyond j (omega arith) };
-      refusal = λ e. absurd (false≢true e);
-    }
+pub returns-in-Free-clause-step : goal.returns-in-Free-clause-step
+returns-in-Free-clause-step g c =
+    λ o within starts.
+    ⊎_elim (λ free. search rules) (λ sent. search rules) c.in-Free.is
+    ∙ fetched g.V.Kind.code o c.args.s c.args.i c.args.looks.now c.args.seat.now c.args.own.now c.index-own-i.result within starts c.requires c.index-own-i.is
 
-pub returns : goal.returns
-returns g c =
+pub returns-then-stale-clause-step : goal.returns-then-stale-clause-step
+returns-then-stale-clause-step g c =
+    λ o within starts.
     let code = g.V.Kind.code in
-    let q = seat_means code c.read_seat-seat.result in
-    let line = c.read_line-line.result in
-    let l = line_means code line in
-    let r = answer_means code line.answer in
-    let is = fetchable (activity q) l.progress l.state (ap Ok (sym c.if-stale.false) ∙ c.in_ok-stale.ensures) in
-    record {
-      step = λ row lost.
-          let C = sheets_state code c.args.seats.now c.args.lines.now row lost c.args.looks.now in
-          let f : sea.Seat → lin.Line → State × ans.Answer = λ q l. fetch_at c.args.at.providers c.args.at.seat c.args.at.provider (activity q) l C in
-          c.take_answer.ensures.step row lost
-          ∙ (fetch_taken c.args.at.providers c.args.at.seat c.args.at.provider (activity q) C l r (answer_of code line line.transit is.0 is.1) (ap Ok (sym c.if-stale.false) ∙ c.in_ok-stale.ensures)
-          ∙ ap₂ f c.read_seat-seat.ensures c.read_line-line.ensures);
-      beyond = c.take_answer.ensures.beyond;
-      refusal = λ e. absurd (false≢true e);
-    }
+    let own = c.args.own.now in
+    let q = seat_means code c.args.seat.now in
+    ap (λ ls. (among o c.args.s q ls c.args.looks.now, dropped)) (map-set (line_means code) own c.args.i c.freed.result ∙ ap (set (lines_mean code own) c.args.i) c.freed.ensures)
+    ∙ (ap (λ D. (D, dropped)) (freed_among o (length own) c.args.s q (lines_mean code own) c.args.looks.now within starts (length-map own (line_means code)) c.args.i (progress_means code c.index-own-i.result) c.args.looks.now c.requires)
+    ∙ (search rules
+    ∙ fetched code o c.args.s c.args.i c.args.looks.now c.args.seat.now own c.index-own-i.result within starts c.requires c.index-own-i.is))
+
+pub returns-then-foreign-clause-step : goal.returns-then-foreign-clause-step
+returns-then-foreign-clause-step g c =
+    λ o within starts.
+    search rules
+    ∙ fetched g.V.Kind.code o c.args.s c.args.i c.args.looks.now c.args.seat.now c.args.own.now c.index-own-i.result within starts c.requires c.index-own-i.is
+
+pub returns-else-foreign-clause-step : goal.returns-else-foreign-clause-step
+returns-else-foreign-clause-step g c =
+    λ o within starts.
+    c.take_answer.ensures o within starts
+    ∙ (search rules
+    ∙ fetched g.V.Kind.code o c.args.s c.args.i c.args.looks.now c.args.seat.now c.args.own.now c.index-own-i.result within starts c.requires c.index-own-i.is)

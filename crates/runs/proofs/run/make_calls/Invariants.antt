@@ -6,12 +6,12 @@ use Rattle.relay.specs.RelayState.{relay_state}
 use Rattle.runs.specs.Runs.{calls_in, answers_in, calls_mean, run_answers, run_end}
 use Rattle.runs.proofs.run.make_calls.Given as goal
 
-abbrev pub invariant-loop-k : goal.invariant-loop-k
-invariant-loop-k g l =
+abbrev pub invariant-loop-exchange : goal.invariant-loop-exchange
+invariant-loop-exchange g l =
     (calls_in l.exchanges ≡ calls_in l.initial.exchanges)
-    × (map (told g.V.Kind.code) (take l.k (answers_in l.exchanges)) ++ run_answers (relay_state g.V.Kind.code (g.B.Bank.row l.relay.bank) l.relay.inner l.seats l.lines) (map (call_means g.V.Kind.code) (drop l.k (calls_in l.initial.exchanges)))
+    × (map (told g.V.Kind.code) (take l.exchange-index (answers_in l.exchanges)) ++ run_answers (relay_state g.V.Kind.code (g.B.Bank.row l.relay.bank) l.relay.inner l.seats l.lines) (map (call_means g.V.Kind.code) (drop l.exchange-index (calls_in l.initial.exchanges)))
     ≡ run_answers (relay_state g.V.Kind.code (g.B.Bank.row l.initial.relay.bank) l.initial.relay.inner l.initial.seats l.initial.lines) (calls_mean g.V.Kind.code l.initial.exchanges))
-    × (run_end (relay_state g.V.Kind.code (g.B.Bank.row l.relay.bank) l.relay.inner l.seats l.lines) (map (call_means g.V.Kind.code) (drop l.k (calls_in l.initial.exchanges)))
+    × (run_end (relay_state g.V.Kind.code (g.B.Bank.row l.relay.bank) l.relay.inner l.seats l.lines) (map (call_means g.V.Kind.code) (drop l.exchange-index (calls_in l.initial.exchanges)))
     ≡ run_end (relay_state g.V.Kind.code (g.B.Bank.row l.initial.relay.bank) l.initial.relay.inner l.initial.seats l.initial.lines) (calls_mean g.V.Kind.code l.initial.exchanges))
     × (l.relay.inner.seats ≡ l.initial.relay.inner.seats)
     × (length (g.B.Bank.row l.relay.bank) ≡ length (g.B.Bank.row l.initial.relay.bank))

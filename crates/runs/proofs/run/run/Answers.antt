@@ -48,5 +48,5 @@ returns g c =
       lawful = λ e. subst₂ (λ said end. Lawful m (length row) calls said end)
           (sym (answers ∙ ap (λ x. run_answers (opened x m nothing row seats lines) calls) (was_accepted a e)))
           (sym (ap (λ (R : RelayState). R.state) (ended ∙ ap (λ x. run_end (opened x m nothing row seats lines) calls) (was_accepted a e))))
-          (lawful_run m row nothing seats lines calls c.lawful.ensures.some (checked e));
+          (lawful_run m row nothing seats lines calls (g.met.B.Bank.some c.args.bank) (checked e));
     }

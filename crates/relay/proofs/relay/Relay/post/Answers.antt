@@ -1,14 +1,22 @@
-use Rattle.std.proofs.Common.{◌+◌, ◌*◌, ◌<◌, length, get_or, refl, ap, ◌∙◌, subst, arith}
-use Rattle.values.specs.Refusals.{refusal_number}
+use Rattle.std.proofs.Common.{◌+◌, ◌*◌, ◌<◌, length, get_or, set, refl, ap, ◌∙◌, sym, arith}
+use Rattle.std.proofs.lemmas.List.{get_or-map, map-set, set-get_or, drop-set-lt}
+use borrow.Author.Rules.{scaled_Fits}
 use Rattle.banks.specs.Row.{size_of}
 use Rattle.protocol.specs.Answers as ans
-use Rattle.protocol.specs.Seats.{activity, blank_seat}
-use Rattle.protocol.specs.State.{line_at}
-use Rattle.relay.specs.RelayState.{relay_state, with_state}
-use Rattle.relay.specs.Sheets.{acknowledged, seats_mean, lines_mean}
-use Rattle.relay.proofs.Exits.{refused_as}
-use Rattle.relay.proofs.RelaySteps.{admission_of, step_is, post_refused, post_found, post_done}
+use Rattle.protocol.specs.Lines.{blank_line}
+use Rattle.protocol.specs.Seats.{blank_seat}
+use Rattle.records.specs.Means.{line_means, seat_means}
+use Rattle.relay.specs.RelayState.{relay_state}
+use Rattle.relay.specs.Sheets.{acknowledged, lines_mean}
+use Rattle.relay.proofs.Own.{read_at}
+use Rattle.relay.proofs.RelaySteps.{call_refused, call_made, post_refused, post_found, post_done}
 use Rattle.relay.proofs.relay.Relay.post.Goals as goal
+
+pub offset_bounds-lines-at : goal.offset_bounds-lines-at
+offset_bounds-lines-at g c =
+    let w = c.in_ok-at.ensures.within in
+    let lt : c.in_ok-at.at.seat.start + c.in_ok-at.at.provider < length c.args.lines.now = omega (arith, w.end, w.lines, c.in_ok-at.ensures.provider) in
+    scaled_Fits (c.in_ok-at.at.seat.start + c.in_ok-at.at.provider) (length c.args.lines.now) _ lt (search c.well_formed)
 
 pub returns-in_err-at : goal.returns-in_err-at
 returns-in_err-at g c =
@@ -17,7 +25,7 @@ returns-in_err-at g c =
     let r = c.args.self.now.inner in
     let R = relay_state code row r c.args.seats.now c.args.lines.now in
     record {
-      step = refused_as R acknowledged c.in_err-at.field-0.0 _ _ c.from_residual.ensures.1 (post_refused R c.args.seat c.args.provider (admission_of row r (length c.args.seats.now) (length c.args.lines.now)) (refusal_number c.in_err-at.field-0.0) c.in_err-at.ensures.answer ∙ step_is code row r c.args.seats.now c.args.lines.now (ans.post c.args.seat c.args.provider));
+      step = call_refused code row r c.args.seats.now c.args.lines.now (ans.post c.args.seat c.args.provider) acknowledged c.in_err-at.field-0.0 _ c.from_residual.ensures.1 (post_refused R c.args.seat c.args.provider _ _ c.in_err-at.ensures.answer);
       beyond = refl;
       refusal = λ _. refl;
     }
@@ -27,16 +35,22 @@ returns g c =
     let code = g.V.Kind.code in
     let row = g.B.Bank.row c.args.self.now.bank in
     let r = c.args.self.now.inner in
-    let R = relay_state code row r c.args.seats.now c.args.lines.now in
+    let seats = c.args.seats.now in
+    let lines = c.args.lines.now in
+    let R = relay_state code row r seats lines in
     let at = c.in_ok-at.at in
-    let a = activity (get_or (seats_mean code c.args.seats.now) at.seat blank_seat) in
-    let l = line_at at.providers (lines_mean code c.args.lines.now) at.seat at.provider in
     let w = c.in_ok-at.ensures.within in
+    let i = at.seat.start + at.provider in
+    let next = c.post_line.new.line in
+    let is = map-set (line_means code) lines i next ∙ ap (λ j. set (lines_mean code lines) (j + at.provider) (line_means code next)) w.start in
+    let x = c.index-lines-at.result in
+    let l = line_means code (get_or lines i x) in
+    let was = sym (get_or-map (line_means code) lines i x blank_line (omega (arith, w.end, w.lines, c.in_ok-at.ensures.provider))) ∙ ap (λ j. get_or (lines_mean code lines) (j + at.provider) blank_line) w.start in
+    let q = c.index-seats-at.result in
+    let seat = read_at (seat_means code) blank_seat seats at.seat.seat q (omega (arith, w.seat, w.seats)) c.index-seats-at.is in
     record {
       step =
-          ap (with_state R) (post_done at.providers at.seat at.provider a l R.state c.post_line.result (lines_mean code c.post_line.new.lines) c.post_line.ensures.answer c.post_line.ensures.means)
-          ∙ (post_found R c.args.seat c.args.provider (admission_of row r (length c.args.seats.now) (length c.args.lines.now)) at c.in_ok-at.ensures.answer
-          ∙ step_is code row r c.args.seats.now c.args.lines.now (ans.post c.args.seat c.args.provider));
-      beyond = c.post_line.ensures.beyond (r.seats * size_of row) (subst (λ n. at.seat * at.providers + at.provider < r.seats * n) w.5 (omega arith));
-      refusal = c.post_line.ensures.refusal;
+          call_made code row r seats lines (ans.post c.args.seat c.args.provider) (post_done at.seat.providers at.seat.seat at.provider R.state (seat_means code q) l (line_means code next) c.post_line.result _ seat was c.post_line.ensures.answer c.post_line.ensures.means is) (post_found R c.args.seat c.args.provider _ at c.in_ok-at.ensures.answer);
+      beyond = drop-set-lt (r.seats * size_of row) lines i next (omega (arith, w.end, c.in_ok-at.ensures.provider));
+      refusal = λ e. ap (set lines i) (c.post_line.ensures.refusal e) ∙ set-get_or lines i x;
     }

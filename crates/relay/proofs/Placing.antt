@@ -1,0 +1,61 @@
+-- A seat and its own lines in the sheets: what a step of theirs is to the state of the sheets.
+use Rattle.std.proofs.Common.{◌≡◌, ℕ, ◌*◌, Bool, List, ◌++◌, length, get_or, take, drop, set, sym, ap, ◌∙◌, ap₂, arith, length-drop}
+use Rattle.std.proofs.lemmas.List.{map-set, map-append, length-map, length-take-le, set-get_or, take-append-drop, drop-set-lt}
+use Rattle.std.proofs.lemmas.Slice.{drop-put_mid}
+use borrow.Rule.Slice.PartMut.{put_mid}
+use Rattle.stores.specs.Provider.{Provider}
+use Rattle.protocol.specs.Answers.{Answer}
+use Rattle.protocol.specs.Lines as lin
+use Rattle.protocol.specs.Seats as sea
+use Rattle.protocol.specs.State.{State}
+use Rattle.records.specs.Means.{line_means, seat_means}
+use Rattle.records.specs.declared.line.Line.{Line}
+use Rattle.records.specs.declared.seat.Seat.{Seat}
+use Rattle.relay.specs.Checks.{Within}
+use Rattle.relay.specs.Effects.{Others, among, Steps, BeyondAll}
+use Rattle.relay.specs.Sheets.{sheets_state, seats_mean, lines_mean}
+use Rattle.relay.specs.declared.place.SeatPlace.{SeatPlace}
+
+module _ {V : Type 0} (seats : List (Seat V)) (lines : List (Line V)) (m n : ℕ) (at : SeatPlace) (k : ℕ) (counts : k ≡ at.providers) (w : Within m n (length seats) (length lines) at) where
+  abbrev own : List (Line V)
+  own = take k (drop at.start lines)
+
+  kept : put_mid at.start k lines own ≡ lines
+  kept = ap (λ x. take at.start lines ++ x) (take-append-drop k (drop at.start lines)) ∙ take-append-drop at.start lines
+
+  own_long : length own ≡ at.providers
+  own_long = length-take-le k (drop at.start lines) (omega (arith, length-drop at.start lines, w.end, w.lines)) ∙ counts
+
+  pub unchanged : (x next : Seat V) (lines_now : List (Line V)) → (next ≡ get_or seats at.seat x) × (lines_now ≡ own) → (set seats at.seat next ≡ seats) × (put_mid at.start k lines lines_now ≡ lines)
+  unchanged x next lines_now same =
+      (ap (set seats at.seat) same.0 ∙ set-get_or seats at.seat x, ap (put_mid at.start k lines) same.1 ∙ kept)
+
+  pub beyond_all : (next : Seat V) (lines_now : List (Line V)) → length lines_now ≡ length own → BeyondAll m n seats lines (set seats at.seat next) (put_mid at.start k lines lines_now)
+  beyond_all next lines_now long =
+      record {
+        seats = drop-set-lt m seats at.seat next w.seat;
+        lines = drop-put_mid at.start k lines lines_now (m * n) (omega (arith, w.end, counts)) (omega (arith, w.end, w.lines)) (long ∙ (own_long ∙ sym counts));
+      }
+
+  module _ (code : V → List ℕ) (row : List Provider) (lost : List Bool) where
+    abbrev others : Others
+    others = record { seats = seats_mean code seats; before = lines_mean code (take at.start lines); after = lines_mean code (drop k (drop at.start lines)); row = row; lost = lost }
+
+    placed : (next : Seat V) (lines_now : List (Line V)) (looks : ℕ) → sheets_state code (set seats at.seat next) (put_mid at.start k lines lines_now) row lost looks ≡ among others at.seat (seat_means code next) (lines_mean code lines_now) looks
+    placed next lines_now looks =
+        let f : List sea.Seat → List lin.Line → State = λ x y. record { seats = x; lines = y; row = row; lost = lost; looks = looks } in
+        ap₂ f
+        (map-set (seat_means code) seats at.seat next)
+        (map-append (line_means code) (take at.start lines) (lines_now ++ drop k (drop at.start lines))
+        ∙ ap (λ x. lines_mean code (take at.start lines) ++ x) (map-append (line_means code) lines_now (drop k (drop at.start lines))))
+
+    stood : (x : Seat V) (looks : ℕ) → sheets_state code seats lines row lost looks ≡ among others at.seat (seat_means code (get_or seats at.seat x)) (lines_mean code own) looks
+    stood x looks =
+        ap₂ (λ x y. sheets_state code x y row lost looks) (sym (set-get_or seats at.seat x)) (sym kept) ∙ placed (get_or seats at.seat x) own looks
+
+    pub step_placed : (step : ℕ → State → State × Answer) (x next : Seat V) (lines_now : List (Line V)) (looked looks : ℕ) (answer : Answer) → Steps code at.seat (step (length own)) (get_or seats at.seat x) own looked next lines_now looks answer → (sheets_state code (set seats at.seat next) (put_mid at.start k lines lines_now) row lost looks, answer) ≡ step at.providers (sheets_state code seats lines row lost looked)
+    step_placed step x next lines_now looked looks answer h =
+        ap (λ C. (C, answer)) (placed next lines_now looks)
+        ∙ (h others (omega (arith, length-map seats (seat_means code), w.seat, w.seats)) (length-map (take at.start lines) (line_means code) ∙ (length-take-le at.start lines (omega (arith, w.end, w.lines)) ∙ (w.start ∙ ap (λ j. at.seat * j) (sym own_long))))
+        ∙ (ap (λ j. step j (among others at.seat (seat_means code (get_or seats at.seat x)) (lines_mean code own) looked)) own_long
+        ∙ ap (step at.providers) (sym (stood x looked))))

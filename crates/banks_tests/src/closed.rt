@@ -1,4 +1,5 @@
-ghost use Rattle.std.specs.Prelude.{[]};
+ghost use Rattle.std.specs.Prelude.{[], refl};
+ghost use Rattle.std.proofs.Common.{rules};
 
 use stores::store::Store;
 use stores::stored::Stored;
@@ -13,7 +14,9 @@ pub struct Closed;
 impl<V: Kind> Store<V> for Closed {
     ghost provider = { λ _. record { capacity = 0; cells = [] } };
 
-    fn lawful(&self) {}
+    ghost few = { λ _. Prim.search rules };
+
+    ghost sorted = { λ _. refl };
 
     fn capacity(&self) -> usize {
         0

@@ -31,7 +31,7 @@ fn work_by_number<B: Bank<Secret>>(bank: &mut B, i: usize, text: Secret) {
     }
 }
 
-// The same work at a provider.
+// The same work at a provider. (It is told twice, since the two are compared.)
 fn work_directly<S: Store<Secret>>(store: &mut S, i: usize, text: Secret) {
     for turn in 0..12 {
         let k = key_of(i, turn);
@@ -40,17 +40,6 @@ fn work_directly<S: Store<Secret>>(store: &mut S, i: usize, text: Secret) {
         } else {
             let _ = store.put(k, key(turn), text);
         }
-    }
-}
-
-// Whether provider i of a bank holds the same as a provider under a key.
-fn same_at<B: Bank<Secret>, S: Store<Secret>>(bank: &B, i: usize, store: &S, k: Key) -> bool {
-    match (bank.get(i, k), store.get(k)) {
-        (Ok(Some(a)), Some(b)) => {
-            a.version == b.version && a.value.as_bytes() == b.value.as_bytes()
-        }
-        (Ok(None), None) => true,
-        _ => false,
     }
 }
 
@@ -70,7 +59,7 @@ fn check_same<B: Bank<Secret>, S: Store<Secret>>(
     assert_eq!(rt; bank.list(i, &mut sheet), store.list(&mut other));
     assert_eq!(rt; sheet, other);
     for number in 0..5 {
-        assert!(rt; same_at(bank, i, store, key(number)));
+        assert!(rt; bank.get(i, key(number)) == Ok(store.get(key(number))));
     }
     Ok(())
 }

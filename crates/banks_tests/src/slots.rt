@@ -1,4 +1,4 @@
-ghost use Rattle.banks_tests.specs.Slots.{slot_cells};
+ghost use Rattle.banks_tests.specs.Slots.{slot_cells, slot_few, slot_sorted};
 
 use crate::slot::{Held, Slot};
 use stores::store::Store;
@@ -10,17 +10,16 @@ use values::version::{Key, Version};
 impl<V: Kind> Store<V> for Slot<V> {
     ghost provider = { λ s. record { capacity = 1; cells = slot_cells V.Kind.code s.held } };
 
-    fn lawful(&self) {}
+    ghost few = { λ s. slot_few V.Kind.code s.held };
+
+    ghost sorted = { λ s. slot_sorted V.Kind.code s.held };
 
     fn capacity(&self) -> usize {
         1
     }
 
     fn count(&self) -> usize {
-        match self.held {
-            Some(_) => 1,
-            None => 0,
-        }
+        usize::from(self.held.is_some())
     }
 
     fn get(&self, key: Key) -> Option<Stored<V>> {

@@ -28,17 +28,6 @@ fn shows<B: Bank<Secret>>(bank: &B, i: usize, k: Key, text: &[u8]) -> bool {
     }
 }
 
-// Whether two providers hold the same.
-fn alike(a: &Slot<Secret>, b: &Slot<Secret>) -> bool {
-    match (a.held, b.held) {
-        (Some(x), Some(y)) => {
-            x.key == y.key && x.version == y.version && x.value.as_bytes() == y.value.as_bytes()
-        }
-        (None, None) => true,
-        _ => false,
-    }
-}
-
 // Seven providers, nested unevenly: numbers 2 and 6 can hold no key, and the others can hold one.
 type Single = One<Slot<Secret>>;
 
@@ -117,7 +106,7 @@ pub(crate) fn check_refused<B: Bank<Secret>>(
     let mut sheet = [key(70), key(71)];
     assert_eq!(rt; bank.capacity(i), Err(Refusal::NoSuchProvider));
     assert_eq!(rt; bank.count(i), Err(Refusal::NoSuchProvider));
-    assert!(rt; bank.get(i, key(1)).err() == Some(Refusal::NoSuchProvider));
+    assert_eq!(rt; bank.get(i, key(1)).err(), Some(Refusal::NoSuchProvider));
     assert_eq!(rt; bank.list(i, &mut sheet), Err(Refusal::NoSuchProvider));
     assert_eq!(rt; sheet, [key(70), key(71)]);
     assert_eq!(rt;
@@ -193,13 +182,13 @@ fn a_call_by_number_is_the_call_at_the_provider(rt: HostRuntime) -> Result<(), F
         text,
     )?;
     let mut direct = empty();
-    assert!(rt; alike(&third, &direct));
+    assert!(rt; third == direct);
     direct.put(key(4), key(5), text)?;
-    assert!(rt; alike(&second, &direct));
-    assert!(rt; !alike(&first, &direct));
+    assert!(rt; second == direct);
+    assert!(rt; first != direct);
     direct.remove(key(4));
     direct.put(key(8), key(9), text)?;
-    assert!(rt; alike(&first, &direct));
+    assert!(rt; first == direct);
     Ok(())
 }
 

@@ -28,19 +28,9 @@ fn hold(seat: u16) -> Hold {
     }
 }
 
-// The seat of the hold under a key, or 0.
-fn seat_at(table: &Table<Hold>, number: u32) -> u16 {
-    match table.get(key(number)) {
-        Some(stored) => match stored.value {
-            Hold::Held {
-                seat,
-                first: _,
-                last: _,
-            } => seat,
-            Hold::Free => 0,
-        },
-        None => 0,
-    }
+// The hold under a key.
+fn hold_at(table: &Table<Hold>, number: u32) -> Option<Hold> {
+    table.get(key(number)).map(|stored| stored.value)
 }
 
 #[test]
@@ -62,7 +52,7 @@ fn a_table_of_one_entry_replaces_and_refuses(rt: HostRuntime) -> Result<(), Fail
     table.put(key(1), key(1), hold(1))?;
     assert_eq!(rt; table.put(key(2), key(2), hold(2)), Err(Refusal::StoreFull));
     table.put(key(1), key(7), hold(3))?;
-    assert_eq!(rt; seat_at(&table, 1), 3);
+    assert_eq!(rt; hold_at(&table, 1), Some(hold(3)));
     assert_eq!(rt; table.list(&mut []), Err(Refusal::KeySheetTooShort));
     table.remove(key(1));
     assert_eq!(rt; table.count(), 0);
@@ -87,24 +77,17 @@ fn a_table_lists_its_keys_ascending_and_leaves_the_other_places(
     table.remove(key(5));
     table.remove(key(6));
     assert_eq!(rt; table.count(), 2);
-    assert_eq!(rt; seat_at(&table, 2), 4);
-    assert_eq!(rt; seat_at(&table, 5), 0);
-    assert_eq!(rt; seat_at(&table, 9), 3);
+    assert_eq!(rt; hold_at(&table, 2), Some(hold(4)));
+    assert_eq!(rt; hold_at(&table, 5), None);
+    assert_eq!(rt; hold_at(&table, 9), Some(hold(3)));
     Ok(())
 }
 
 // Puts keys 1 to n, and answers how many were accepted.
-fn fill(table: &mut Table<Hold>, n: u32) -> u32 {
-    let mut accepted = 0u32;
-    for number in 0..n {
-        if table
-            .put(key(number.wrapping_add(1)), Key::NONE, hold(1))
-            .is_ok()
-        {
-            accepted = accepted.saturating_add(1);
-        }
-    }
-    accepted
+fn fill(table: &mut Table<Hold>, n: u32) -> usize {
+    (1..=n)
+        .filter(|number| table.put(key(*number), Key::NONE, hold(1)).is_ok())
+        .count()
 }
 
 #[test]

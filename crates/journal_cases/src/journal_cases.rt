@@ -47,12 +47,7 @@ fn six_records(bytes: &mut [u8]) -> Result<usize, Refusal> {
 
 // Whether the bytes from `at` on begin with these.
 fn stand_at(bytes: &[u8], at: usize, record: &[u8]) -> bool {
-    for (i, b) in bytes.iter().skip(at).enumerate() {
-        if i < record.len() && *b != record[i] {
-            return false;
-        }
-    }
-    true
+    bytes.iter().skip(at).zip(record).all(|(a, b)| a == b)
 }
 
 // The hold by seat 3 from minute 10 to 20 is 07 03 00 0A 00 00 00 14 00 00 00.
@@ -82,15 +77,14 @@ fn alternate(bytes: &mut [u8], secret: Secret, turns: u32) -> Option<u32> {
     let mut packings: u32 = 0;
     for turn in 0..turns {
         let before = journal.used();
-        let put = journal.put(version(turn, 1), version(turn, 2), secret);
-        if put.is_err() {
-            return None;
-        }
+        journal
+            .put(version(turn, 1), version(turn, 2), secret)
+            .ok()?;
         if journal.used() < before {
             packings = packings.wrapping_add(1);
         }
         let stored: Stored<Secret> = journal.get(version(turn, 1))?;
-        if stored.version != version(turn, 2) || stored.value.as_bytes() != secret.as_bytes() {
+        if stored.version != version(turn, 2) || stored.value != secret {
             return None;
         }
         Store::<Secret>::remove(&mut journal, version(turn, 1));
@@ -136,9 +130,7 @@ fn a_key_outlives_packing(rt: HostRuntime) -> Result<(), Fail> {
 // Puts a value of any kind and reads it back.
 fn read_back<V: Kind>(bytes: &mut [u8], value: V) -> Option<V> {
     let mut journal = Journal::new::<V>(bytes);
-    if journal.put(version(4, 1), version(4, 2), value).is_err() {
-        return None;
-    }
+    journal.put(version(4, 1), version(4, 2), value).ok()?;
     let stored: Stored<V> = journal.get(version(4, 1))?;
     Some(stored.value)
 }
@@ -146,20 +138,10 @@ fn read_back<V: Kind>(bytes: &mut [u8], value: V) -> Option<V> {
 #[test]
 fn values_of_both_kinds_are_read_back(rt: HostRuntime) -> Result<(), Fail> {
     let mut bytes = vec![in rt.alloc(); 5; 124]?;
-    match read_back(&mut bytes, Secret::new(b"open sesame")?) {
-        Some(secret) => assert!(rt; secret.as_bytes() == b"open sesame".as_slice()),
-        None => assert!(rt; false),
-    }
-    match read_back(&mut bytes, Hold::new(3, 10, 20)?) {
-        Some(hold) => {
-            assert!(rt; hold.covers(10) && hold.covers(20) && !hold.covers(9) && !hold.covers(21));
-            Ok(())
-        },
-        None => {
-            assert!(rt; false);
-            Ok(())
-        },
-    }
+    let (secret, hold) = (Secret::new(b"open sesame")?, Hold::new(3, 10, 20)?);
+    assert!(rt; read_back(&mut bytes, secret) == Some(secret));
+    assert_eq!(rt; read_back(&mut bytes, hold), Some(hold));
+    Ok(())
 }
 
 fn listed(bytes: &mut [u8], sheet: &mut [Key]) -> Result<usize, Refusal> {
@@ -174,26 +156,32 @@ fn listed(bytes: &mut [u8], sheet: &mut [Key]) -> Result<usize, Refusal> {
 fn keys_are_listed_ascending(rt: HostRuntime) -> Result<(), Fail> {
     let mut bytes = vec![in rt.alloc(); 0; 72]?;
     let mut short = [version(8, 8)];
-    assert!(rt; listed(&mut bytes, &mut short) == Err(Refusal::KeySheetTooShort));
-    assert!(rt; short[0] == version(8, 8));
+    assert_eq!(rt;
+        listed(&mut bytes, &mut short),
+        Err(Refusal::KeySheetTooShort)
+    );
+    assert_eq!(rt; short, [version(8, 8)]);
     let mut sheet = [version(8, 8); 3];
-    assert!(rt; listed(&mut bytes, &mut sheet) == Ok(2));
-    assert!(rt; sheet[0] == version(2, 7));
-    assert!(rt; sheet[1] == version(5, 1));
-    assert!(rt; sheet[2] == version(8, 8));
+    assert_eq!(rt; listed(&mut bytes, &mut sheet), Ok(2));
+    assert_eq!(rt; sheet, [version(2, 7), version(5, 1), version(8, 8)]);
     Ok(())
 }
 
-// A journal for holds has no room for secrets, which are wider, and calls with secrets change nothing.
-fn with_another_width(bytes: &mut [u8], hold: Hold, secret: Secret) -> Result<usize, Refusal> {
+// A journal for holds has no room for secrets, which are wider, and calls with secrets change nothing. Answers the used
+// length, unless there was room.
+fn with_another_width(
+    bytes: &mut [u8],
+    hold: Hold,
+    secret: Secret,
+) -> Result<Option<usize>, Refusal> {
     let mut journal = Journal::new::<Hold>(bytes);
     journal.put(version(5, 1), version(5, 1), hold)?;
     let refused = journal.put(version(5, 1), version(6, 1), secret);
     Store::<Secret>::remove(&mut journal, version(5, 1));
     if refused.is_ok() || Store::<Secret>::capacity(&journal) != 0 {
-        return Ok(0);
+        return Ok(None);
     }
-    Ok(journal.used())
+    Ok(Some(journal.used()))
 }
 
 #[test]
@@ -202,7 +190,7 @@ fn values_of_another_width_find_no_room(rt: HostRuntime) -> Result<(), Fail> {
     let secret = Secret::new(b"wide")?;
     assert_eq!(rt;
         with_another_width(&mut vec![in rt.alloc(); 0; 480]?, hold, secret)?,
-        18
+        Some(18)
     );
     Ok(())
 }

@@ -15,7 +15,7 @@ use table::table::Table;
 use values::kind::Kind;
 use values::refusal::Refusal;
 use values::secret::Secret;
-use values::version::{Key, Version};
+use values::version::Key;
 
 // the most keys that a provider holds
 const CAPACITY: usize = 32;
@@ -70,23 +70,13 @@ fn load_line<S: Store<Secret>>(
 // Stores the secrets of standard input, and answers how many were read.
 fn load<S: Store<Secret>>(rt: &HostRuntime, store: &mut S) -> io::Result<usize> {
     let mut secrets = 0usize;
-    let mut number = 0usize;
-    for line in BufReader::new(rt.alloc(), rt.stdin())?.split(rt.alloc(), b'\n') {
-        number = number.saturating_add(1);
-        if load_line(rt, store, number, line?.as_slice())? {
+    let lines = BufReader::new(rt.alloc(), rt.stdin())?.split(rt.alloc(), b'\n');
+    for (i, line) in lines.enumerate() {
+        if load_line(rt, store, i.saturating_add(1), line?.as_slice())? {
             secrets = secrets.saturating_add(1);
         }
     }
     Ok(secrets)
-}
-
-// Whether two providers hold the same version and secret under a key.
-fn same_at<S: Store<Secret>, T: Store<Secret>>(one: &S, two: &T, key: Key) -> bool {
-    match (one.get(key), two.get(key)) {
-        (Some(a), Some(b)) => a.version.same(b.version) && a.value.as_bytes() == b.value.as_bytes(),
-        (None, None) => true,
-        _ => false,
-    }
 }
 
 // Compares a table, the log and the table that it was copied back into at each of these keys, and prints each key.
@@ -100,7 +90,8 @@ fn compare<S: Store<Secret>, L: Store<Secret>, T: Store<Secret>>(
     let mut different = 0usize;
     for key in keys {
         let Key { number, seat } = *key;
-        if same_at(first, log, *key) && same_at(first, second, *key) {
+        let held = first.get(*key);
+        if log.get(*key) == held && second.get(*key) == held {
             println!(rt; "key {number} {seat}: the same in all three")?;
         } else {
             different = different.saturating_add(1);
@@ -192,7 +183,7 @@ fn main(rt: HostRuntime) -> io::Result<()> {
     if first.list(&mut sheet).is_err() || count > CAPACITY {
         return println!(rt; "the keys do not fit a sheet of {CAPACITY} places");
     }
-    let keys = &sheet[0..count];
+    let keys = &sheet[..count];
     copy_to(&rt, &first, &mut log, "the log")?;
     refresh(&rt, &first, &mut log, keys)?;
     copy_to(&rt, &log, &mut second, "the second table")?;

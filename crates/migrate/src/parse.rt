@@ -9,21 +9,11 @@ pub struct Request<'a> {
 }
 
 fn all_digits(text: &str) -> bool {
-    for b in text.bytes() {
-        if !b.is_ascii_digit() {
-            return false;
-        }
-    }
-    true
+    text.bytes().all(|b| b.is_ascii_digit())
 }
 
 fn all_printable(text: &str) -> bool {
-    for b in text.bytes() {
-        if !b.is_ascii_graphic() {
-            return false;
-        }
-    }
-    true
+    text.bytes().all(|b| b.is_ascii_graphic())
 }
 
 // The key of two decimal numbers: a number of 32 bits and a seat of 16.

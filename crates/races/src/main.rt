@@ -57,10 +57,11 @@ fn tell_story(rt: &HostRuntime, title: &str, steps: &[Step]) -> io::Result<()> {
     let mut calls = calls_of(rt.alloc(), steps)?;
     play(calls.as_mut_slice());
     println!(rt; "{title}\n")?;
-    let mut told = 0usize;
+    let mut untold = calls.as_slice();
     for step in steps {
-        tell(rt, *step, calls.as_slice(), told)?;
-        told = told.saturating_add(step.call_count());
+        let (own, later) = untold.split_at(step.call_count().min(untold.len()));
+        tell(rt, *step, own)?;
+        untold = later;
     }
     println!(rt; "")
 }

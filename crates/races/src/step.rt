@@ -27,18 +27,13 @@ pub enum Step {
 
 // The secret of a text, or the blank one if it is too long.
 fn secret_of(text: &str) -> Secret {
-    match Secret::new(text.as_bytes()) {
-        Ok(secret) => secret,
-        Err(_) => Secret::blank(),
-    }
+    Secret::new(text.as_bytes()).unwrap_or(Secret::blank())
 }
 
 // Adds a call. Until it is made, it has the answer of an accepted one.
 fn push(calls: &mut Vec<Exchange<Secret>>, call: Call<Secret>) -> Result<(), AllocError> {
-    calls.push(Exchange {
-        call,
-        answer: Ok(Answer::Accepted),
-    })?;
+    let answer = Ok(Answer::Accepted);
+    calls.push(Exchange { call, answer })?;
     Ok(())
 }
 

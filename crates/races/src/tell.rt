@@ -1,73 +1,69 @@
 use crate::step::Step;
 use records::answer::Answer;
 use records::call::Exchange;
-use std::io;
 use std::str::from_utf8;
+use std::{fmt, io};
 use values::refusal::Refusal;
 use values::secret::Secret;
 use values::version::Version;
 
-// Prints what a step does, without the end of the line.
-fn tell_deed(rt: &HostRuntime, step: Step) -> io::Result<()> {
-    match step {
-        Step::Say(words) => print!(rt; "{words}"),
-        Step::Write(seat, text) => print!(rt; "  seat {seat} begins to write {text}"),
-        Step::Read(seat) => print!(rt; "  seat {seat} begins a plain read"),
-        Step::SettledRead(seat) => print!(rt; "  seat {seat} begins a settled read"),
-        Step::Ask(seat, provider, what) => {
-            print!(rt; "  seat {seat} to provider {provider}: {what}")
+// What a step does.
+impl fmt::Display for Step {
+    fn fmt<W: fmt::Write>(&self, f: &mut fmt::Formatter<W>) -> fmt::Result {
+        match *self {
+            Step::Say(words) => f.write_str(words),
+            Step::Write(seat, text) => write!(f, "  seat {seat} begins to write {text}"),
+            Step::Read(seat) => write!(f, "  seat {seat} begins a plain read"),
+            Step::SettledRead(seat) => write!(f, "  seat {seat} begins a settled read"),
+            Step::Ask(seat, provider, what) => {
+                write!(f, "  seat {seat} to provider {provider}: {what}")
+            }
+            Step::Send(seat, provider, what) => {
+                write!(f, "  seat {seat} to provider {provider}: {what} (sent)")
+            }
+            Step::Arrive(seat, provider) => {
+                write!(
+                    f,
+                    "  the request of seat {seat} arrives at provider {provider}"
+                )
+            }
+            Step::Take(seat, provider) => {
+                write!(f, "  seat {seat} takes the answer of provider {provider}")
+            }
+            Step::Lose(provider) => write!(f, "  provider {provider} is lost"),
         }
-        Step::Send(seat, provider, what) => {
-            print!(rt; "  seat {seat} to provider {provider}: {what} (sent)")
-        }
-        Step::Arrive(seat, provider) => {
-            print!(rt; "  the request of seat {seat} arrives at provider {provider}")
-        }
-        Step::Take(seat, provider) => {
-            print!(rt; "  seat {seat} takes the answer of provider {provider}")
-        }
-        Step::Lose(provider) => print!(rt; "  provider {provider} is lost"),
     }
 }
 
-fn tell_read(rt: &HostRuntime, version: Version, secret: &Secret) -> io::Result<()> {
-    let Version { number, seat } = version;
-    let text = from_utf8(secret.as_bytes()).unwrap_or("");
-    println!(rt; " -> the read shows {text}, version ({number}, {seat})")
-}
+// What became of a step. That a call was accepted, or that an operation goes on, is not said.
+#[derive(Drop)]
+struct Outcome(Result<Answer<Secret>, Refusal>);
 
-// Prints what became of a step, and the end of the line. That a call was accepted, or that an operation goes on, is not
-// said.
-fn tell_answer(rt: &HostRuntime, answer: Result<Answer<Secret>, Refusal>) -> io::Result<()> {
-    match answer {
-        Ok(Answer::Accepted) => println!(rt; ""),
-        Ok(Answer::On) => println!(rt; ""),
-        Ok(Answer::Dropped) => println!(rt; " -> it is stale, and dropped"),
-        Ok(Answer::Wrote(Version { number, seat })) => {
-            println!(rt; " -> the write is done, version ({number}, {seat})")
-        }
-        Ok(Answer::Read(version, secret)) => tell_read(rt, version, &secret),
-        Ok(Answer::Nothing) => println!(rt; " -> the read shows nothing"),
-        Ok(Answer::Used) => println!(rt; " -> the versions are used up"),
-        Err(refusal) => println!(rt; " -> refused: {refusal}"),
-    }
-}
-
-// Prints a step and the answer to the last of its calls, or to the first that was refused. The first `told` exchanges are
-// those of the steps before.
-pub fn tell(
-    rt: &HostRuntime,
-    step: Step,
-    exchanges: &[Exchange<Secret>],
-    told: usize,
-) -> io::Result<()> {
-    tell_deed(rt, step)?;
-    let mut answer = Ok(Answer::Accepted);
-    for exchange in exchanges.iter().skip(told).take(step.call_count()) {
-        answer = exchange.answer;
-        if answer.is_err() {
-            break;
+impl fmt::Display for Outcome {
+    fn fmt<W: fmt::Write>(&self, f: &mut fmt::Formatter<W>) -> fmt::Result {
+        match self.0 {
+            Ok(Answer::Accepted | Answer::On) => Ok(()),
+            Ok(Answer::Dropped) => f.write_str(" -> it is stale, and dropped"),
+            Ok(Answer::Wrote(Version { number, seat })) => {
+                write!(f, " -> the write is done, version ({number}, {seat})")
+            }
+            Ok(Answer::Read(Version { number, seat }, secret)) => {
+                let text = from_utf8(secret.as_bytes()).unwrap_or("");
+                write!(f, " -> the read shows {text}, version ({number}, {seat})")
+            }
+            Ok(Answer::Nothing) => f.write_str(" -> the read shows nothing"),
+            Ok(Answer::Used) => f.write_str(" -> the versions are used up"),
+            Err(refusal) => write!(f, " -> refused: {refusal}"),
         }
     }
-    tell_answer(rt, answer)
+}
+
+// Prints a step, and the answer to the first of its calls that was refused, or else to the last.
+pub fn tell(rt: &HostRuntime, step: Step, calls: &[Exchange<Secret>]) -> io::Result<()> {
+    let told = calls
+        .iter()
+        .find(|call| call.answer.is_err())
+        .or(calls.last());
+    let outcome = Outcome(told.map_or(Ok(Answer::Accepted), |call| call.answer));
+    println!(rt; "{step}{outcome}")
 }

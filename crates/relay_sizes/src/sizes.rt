@@ -56,18 +56,9 @@ fn rounds<B: Bank<Hold>>(
     Ok(answer)
 }
 
-fn wrote(answer: Answer<Hold>, number: u32, seat: u16) -> bool {
-    match answer {
-        Answer::Wrote(version) => version == Version { number, seat },
-        _ => false,
-    }
-}
-
-fn read(answer: Answer<Hold>, number: u32, seat: u16, value: Hold) -> bool {
-    match answer {
-        Answer::Read(version, shown) => version == Version { number, seat } && shown == value,
-        _ => false,
-    }
+// What a write answers once it is done.
+fn wrote(number: u32, seat: u16) -> Answer<Hold> {
+    Answer::Wrote(Version { number, seat })
 }
 
 // A write of a seat of a relay of one provider.
@@ -86,10 +77,10 @@ fn check_one<B: Bank<Hold> + Drop>(rt: &impl Abort, bank: B) -> Result<(), Fail>
     let mut lines = [Line::blank(); 1];
     let (mut relay, opened) = open(bank, 1, &mut seats, &mut lines);
     opened?;
-    assert!(rt; wrote(write(&mut relay, &mut seats, &mut lines, 1)?, 1, 1));
+    assert_eq!(rt; write(&mut relay, &mut seats, &mut lines, 1)?, wrote(1, 1));
     relay.begin_read(&mut seats, &mut lines, 1, true)?;
     let answer = rounds(&mut relay, &mut seats, &mut lines, 1, 1, 4)?;
-    assert!(rt; read(answer, 1, 1, HOLD));
+    assert_eq!(rt; answer, Answer::Read(Version { number: 1, seat: 1 }, HOLD));
     check_look(rt, relay, seats, lines)
 }
 
@@ -107,7 +98,10 @@ fn check_look<B: Bank<Hold> + Drop>(
     lines[0].mark = Version { number: 1, seat: 2 };
     round(&mut relay, &mut seats, &mut lines, 1, 1)?;
     assert_eq!(rt; relay.looks(), Ok(1));
-    assert!(rt; relay.fetch(&mut seats, &mut lines, 1, 1).err() == Some(Refusal::NoAnswer));
+    assert_eq!(rt;
+        relay.fetch(&mut seats, &mut lines, 1, 1),
+        Err(Refusal::NoAnswer)
+    );
     assert_eq!(rt; relay.looks(), Ok(1));
     Ok(())
 }
@@ -122,7 +116,10 @@ fn check_sixteen<B: Bank<Hold> + Drop>(rt: &impl Abort, bank: B) -> Result<(), F
     let mut lines = [Line::blank(); 16];
     let (mut relay, opened) = open(bank, 16, &mut seats, &mut lines);
     opened?;
-    assert!(rt; wrote(write(&mut relay, &mut seats, &mut lines, 16)?, 1, 16));
+    assert_eq!(rt;
+        write(&mut relay, &mut seats, &mut lines, 16)?,
+        wrote(1, 16)
+    );
     Ok(())
 }
 
@@ -159,7 +156,10 @@ fn check_four_of_seven<A: Bank<Hold> + Drop, B: Bank<Hold> + Drop>(
     relay.lose(&seats, &lines, 6)?;
     relay.begin_write(&mut seats, &mut lines, 1, HOLD)?;
     at_four(&mut relay, &mut seats, &mut lines, 1)?;
-    assert!(rt; wrote(at_four(&mut relay, &mut seats, &mut lines, 3)?, 1, 1));
+    assert_eq!(rt;
+        at_four(&mut relay, &mut seats, &mut lines, 3)?,
+        wrote(1, 1)
+    );
     let bank = relay.shut();
     assert_eq!(rt; bank.size(), 7);
     assert_eq!(rt; total_count(&bank), 8);

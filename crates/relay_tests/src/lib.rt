@@ -9,5 +9,3 @@ mod office;
 mod openings;
 #[cfg(test)]
 mod refusals;
-#[cfg(test)]
-mod same;

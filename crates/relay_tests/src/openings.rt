@@ -1,13 +1,12 @@
 // Every refusal of open, the relay of a refused open, and sheets that are too short.
 
 use crate::office::{BLANK, IDLE, hold};
-use crate::same::{check_same_lines, check_same_seats, same_stored};
 use banks::bank::Bank;
 use banks::one::One;
 use banks::whole::total_count;
 use protocol::operation::OperationKind;
 use protocol::phase::Phase;
-use records::line::Line;
+use records::line::{Line, Request};
 use records::seat::Seat;
 use relay::opening::open;
 use relay::relay::Relay;
@@ -39,7 +38,7 @@ fn check_refuses<B: Bank<Hold>>(
     assert_eq!(rt; relay.begin_read(seats, lines, 1, true), Err(refusal));
     assert_eq!(rt; relay.post(seats, lines, 1, 1), Err(refusal));
     assert_eq!(rt; relay.land(seats, lines, 1, 1), Err(refusal));
-    assert!(rt; relay.fetch(seats, lines, 1, 1).err() == Some(refusal));
+    assert_eq!(rt; relay.fetch(seats, lines, 1, 1), Err(refusal));
     assert_eq!(rt; relay.stop(seats, lines, 1), Err(refusal));
     assert_eq!(rt; relay.lose(seats, lines, 1), Err(refusal));
 }
@@ -48,7 +47,7 @@ fn check_refuses<B: Bank<Hold>>(
 const KEY: Key = Key { number: 1, seat: 1 };
 
 fn used_line() -> Line<Hold> {
-    Line::blank().restarted()
+    Line::blank().sent(Request::List).restarted()
 }
 
 // Open is refused for so many seats over a sheet of two seats and these lines, and every call on its relay likewise. The
@@ -67,11 +66,11 @@ fn check_open_refused<B: Bank<Hold> + Drop, const K: usize>(
     assert_eq!(rt; opened, Err(refusal));
     check_refuses(rt, &mut relay, &mut seats, &mut lines, refusal);
     assert_eq!(rt; relay.looks(), Err(refusal));
-    check_same_seats(rt, seats, [BUSY; 2]);
-    check_same_lines(rt, lines, before);
+    assert_eq!(rt; seats, [BUSY; 2]);
+    assert_eq!(rt; lines, before);
     let bank = relay.shut();
     assert_eq!(rt; total_count(&bank), count);
-    assert!(rt; same_stored(bank.get(1, KEY)?, held));
+    assert_eq!(rt; bank.get(1, KEY)?, held);
     Ok(())
 }
 
@@ -112,10 +111,10 @@ fn check_short_sheets<B: Bank<Hold> + Drop>(rt: &impl Abort, bank: B) -> Result<
     let mut few = [used_line(); 1];
     check_refuses(rt, &mut relay, &mut one, &mut lines, Refusal::SheetTooShort);
     check_refuses(rt, &mut relay, &mut seats, &mut few, Refusal::SheetTooShort);
-    check_same_seats(rt, one, [BUSY; 1]);
-    check_same_seats(rt, seats, [IDLE; 2]);
-    check_same_lines(rt, few, [used_line(); 1]);
-    check_same_lines(rt, lines, [Line::blank(); 2]);
+    assert_eq!(rt; one, [BUSY; 1]);
+    assert_eq!(rt; seats, [IDLE; 2]);
+    assert_eq!(rt; few, [used_line(); 1]);
+    assert_eq!(rt; lines, [Line::blank(); 2]);
     assert_eq!(rt; total_count(&relay.shut()), 0);
     Ok(())
 }

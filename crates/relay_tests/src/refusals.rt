@@ -1,7 +1,6 @@
 // Every refusal of a call, and that a refused call changes nothing.
 
 use crate::office::{BLANK, IDLE, check_written, hold, prepare};
-use crate::same::{check_same_lines, check_same_seats};
 use banks::bank::Bank;
 use banks::one::One;
 use banks::two::Two;
@@ -36,9 +35,9 @@ fn check_refused_at<B: Bank<Hold> + Drop>(
         lines[0].stage = stage;
     }
     let (seats_before, lines_before, looks) = (seats, lines, relay.looks());
-    assert!(rt; relay.call(&mut seats, &mut lines, call).err() == Some(refusal));
-    check_same_seats(rt, seats, seats_before);
-    check_same_lines(rt, lines, lines_before);
+    assert_eq!(rt; relay.call(&mut seats, &mut lines, call), Err(refusal));
+    assert_eq!(rt; seats, seats_before);
+    assert_eq!(rt; lines, lines_before);
     assert_eq!(rt; relay.looks(), looks);
     check_written(rt, &relay.shut())
 }

@@ -3,7 +3,6 @@
 
 mod parse;
 
-use banks::bank::Bank;
 use banks::one::One;
 use banks::two::Two;
 use journal::journal::Journal;
@@ -13,10 +12,9 @@ use records::call::Exchange;
 use records::line::Line;
 use records::seat::Seat;
 use runs::run::run;
-use std::io;
 use std::io::{BufRead, BufReader};
 use std::str::from_utf8;
-use stores::store::Store;
+use std::{fmt, io};
 use table::entry::Entry;
 use table::table::Table;
 use values::kind::Kind;
@@ -34,10 +32,18 @@ const CAPACITY: usize = 4;
 // the fewest bytes in which a log of secrets holds so many keys: a longest record, of 62 bytes, for each and one more
 const LOG_BYTES: usize = 310;
 
-// The lines of a script: whether each is a call, and the calls in their order.
+// What a line of a script is: a call, or of another form.
+#[derive(Clone, Copy)]
+enum Form {
+    Call,
+    Bad,
+}
+
+// A script: what each of its lines is, and the calls in their order. (The calls stand by themselves, since `run` takes them
+// as one slice.)
 #[derive(Drop)]
 struct Script {
-    forms: Vec<bool>,
+    forms: Vec<Form>,
     exchanges: Vec<Exchange<Secret>>,
 }
 
@@ -46,19 +52,20 @@ fn read_script(rt: &HostRuntime) -> io::Result<Script> {
     let mut forms = Vec::new(rt.alloc());
     let mut exchanges = Vec::new(rt.alloc());
     for line in BufReader::new(rt.alloc(), rt.stdin())?.split(rt.alloc(), b'\n') {
-        let call = parse(line?.as_slice());
-        forms.push(call.is_some())?;
-        if let Some(call) = call {
-            exchanges.push(Exchange {
-                call,
-                answer: Ok(Answer::Accepted),
-            })?;
+        match parse(line?.as_slice()) {
+            Some(call) => {
+                let answer = Ok(Answer::Accepted);
+                exchanges.push(Exchange { call, answer })?;
+                forms.push(Form::Call)?;
+            }
+            None => forms.push(Form::Bad)?,
         }
     }
     Ok(Script { forms, exchanges })
 }
 
-// Makes the calls on a relay over three empty providers, and writes each answer beside its call.
+// Makes the calls on a relay over three empty providers, and writes each answer beside its call. (Each program lends memory
+// of its own, in sizes of its own, so `races` has such a function too.)
 fn play(exchanges: &mut [Exchange<Secret>]) -> Result<(), Refusal> {
     let mut first = [Entry::blank(); CAPACITY];
     let mut second = [0; LOG_BYTES];
@@ -80,38 +87,40 @@ fn play(exchanges: &mut [Exchange<Secret>]) -> Result<(), Refusal> {
     opened
 }
 
-// Prints what a read showed. The text is printable, since every secret came from a line of the script.
-fn print_read(rt: &HostRuntime, version: Version, secret: &Secret) -> io::Result<()> {
-    let Version { number, seat } = version;
-    let text = from_utf8(secret.as_bytes()).unwrap_or("");
-    println!(rt; "read {number} {seat} {text}")
-}
+// An answer, as a script's output tells it. (A version has no `Display`, since each program writes it in another form.)
+#[derive(Drop)]
+struct Said(Result<Answer<Secret>, Refusal>);
 
-fn print_answer(rt: &HostRuntime, answer: Result<Answer<Secret>, Refusal>) -> io::Result<()> {
-    match answer {
-        Ok(Answer::Accepted) => println!(rt; "ok"),
-        Ok(Answer::On) => println!(rt; "on"),
-        Ok(Answer::Dropped) => println!(rt; "dropped"),
-        Ok(Answer::Wrote(Version { number, seat })) => println!(rt; "wrote {number} {seat}"),
-        Ok(Answer::Read(version, secret)) => print_read(rt, version, &secret),
-        Ok(Answer::Nothing) => println!(rt; "none"),
-        Ok(Answer::Used) => println!(rt; "used"),
-        Err(refusal) => {
-            let by = refusal.number();
-            println!(rt; "no {by}")
+impl fmt::Display for Said {
+    fn fmt<W: fmt::Write>(&self, f: &mut fmt::Formatter<W>) -> fmt::Result {
+        match self.0 {
+            Ok(Answer::Accepted) => f.write_str("ok"),
+            Ok(Answer::On) => f.write_str("on"),
+            Ok(Answer::Dropped) => f.write_str("dropped"),
+            Ok(Answer::Wrote(Version { number, seat })) => write!(f, "wrote {number} {seat}"),
+            Ok(Answer::Read(Version { number, seat }, secret)) => {
+                // The text is printable, since every secret came from a line of the script.
+                let text = from_utf8(secret.as_bytes()).unwrap_or("");
+                write!(f, "read {number} {seat} {text}")
+            }
+            Ok(Answer::Nothing) => f.write_str("none"),
+            Ok(Answer::Used) => f.write_str("used"),
+            Err(refusal) => write!(f, "no {}", refusal.number()),
         }
     }
 }
 
 // Prints a line for each line of the script.
 fn print_answers(rt: &HostRuntime, script: &Script) -> io::Result<()> {
-    let mut next = 0usize;
-    for is_call in script.forms.iter() {
-        if !*is_call {
-            println!(rt; "bad")?;
-        } else if let Some(exchange) = script.exchanges.get(next) {
-            next = next.saturating_add(1);
-            print_answer(rt, exchange.answer)?;
+    let mut exchanges = script.exchanges.iter();
+    for form in &script.forms {
+        match form {
+            Form::Bad => println!(rt; "bad")?,
+            Form::Call => {
+                if let Some(exchange) = exchanges.next() {
+                    println!(rt; "{}", Said(exchange.answer))?;
+                }
+            }
         }
     }
     Ok(())

@@ -14,26 +14,16 @@ fn sole_char(part: &str) -> Option<char> {
 
 // The number in a part of 1 to 4 decimal digits.
 fn parse_number(part: &str) -> Option<usize> {
-    if part.len() > 4 {
+    if part.len() > 4 || !part.bytes().all(|b| b.is_ascii_digit()) {
         return None;
-    }
-    for b in part.bytes() {
-        if !b.is_ascii_digit() {
-            return None;
-        }
     }
     part.parse::<usize>().ok()
 }
 
 // The secret in a part of 1 to 48 printable bytes.
 fn parse_secret(part: &str) -> Option<Secret> {
-    if part.is_empty() {
+    if part.is_empty() || !part.bytes().all(|b| b.is_ascii_graphic()) {
         return None;
-    }
-    for b in part.bytes() {
-        if !b.is_ascii_graphic() {
-            return None;
-        }
     }
     Secret::new(part.as_bytes()).ok()
 }

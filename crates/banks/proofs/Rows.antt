@@ -3,6 +3,7 @@ use Rattle.std.proofs.lemmas.List.{length-append, get_or_append_left, set-append
 use Rattle.std.proofs.lemmas.Bool.{le-leb, and_from, cond-true}
 use Rattle.std.proofs.lemmas.Bool.Decides.{nat_tests}
 use Rattle.stores.specs.Provider.{Provider}
+use Rattle.stores.proofs.KeyedLists.{cond_map}
 use Rattle.banks.specs.Row.{has, absent, picked, row_after, size_of}
 use Rattle.banks.specs.Sides.{Renumbered}
 
@@ -21,10 +22,6 @@ row_inside i row step low high = picked_inside i row (λ p. set row (i - 1) (ste
 
 -- A part of a row, put back by `within`, takes the row's steps.
 
-cond_within : {S T : Type 0} (f : S → T) (b : Bool) (x y : S) → cond b (f x) (f y) ≡ f (cond b x y)
-cond_within f true x y = refl
-cond_within f false x y = refl
-
 renumbered : (i k : ℕ) (row part : List Provider) (within : List Provider → List Provider)
     → row ≡ within part
     → has i row ≡ has k part
@@ -41,7 +38,7 @@ renumbered i k row part within whole known provider placed =
           ∙ ap (λ x. cond (has i row) x row) (placed new)
           ∙ ap (λ x. cond (has i row) (within (set part (k - 1) new)) x) whole
           ∙ ap (λ b. cond b (within (set part (k - 1) new)) (within part)) known
-          ∙ cond_within within (has k part) (set part (k - 1) new) part;
+          ∙ sym (cond_map within (has k part) (set part (k - 1) new) part);
     }
 
 -- Providers of the left one of two banks, whose size is n, keep their numbers.

@@ -1,21 +1,13 @@
-use Rattle.std.proofs.Common.{◌≡◌, ℕ, ◌+◌, ◌-◌, ◌^◌, ◌<◌, min, List, [], ◌∷◌, ◌++◌, map, length, get_or, take, drop, set, Ok, Err, sum_by, Result, sym, ap, ◌∙◌, append_assoc, arith}
-use Rattle.std.specs.Result.{result_unwrap_or}
+use Rattle.std.proofs.Common.{◌≡◌, ℕ, ◌+◌, ◌-◌, ◌<◌, List, [], ◌∷◌, ◌++◌, map, length, get_or, take, drop, set, sym, ap, ◌∙◌, append_assoc, arith}
 use Rattle.std.proofs.lemmas.List.{length-append, length-map, length-take-le, drop_more, set_at, get_or_at, map_more}
-use Rattle.std.proofs.lemmas.List.Sums.{sum_by_more}
-use Rattle.values.specs.Refusals.{numbered}
-use Rattle.values.specs.declared.refusal.Refusal.{Refusal}
 use Rattle.stores.specs.Provider.{Provider}
-use Rattle.banks.specs.Row.{absent, answer_of, row_after}
-use Rattle.banks.proofs.Rows.{picked_inside, row_inside}
+use Rattle.banks.specs.Row.{absent, row_after}
+use Rattle.banks.proofs.Rows.{row_inside}
 
 -- One turn of a loop over the providers of a row: the first i are done, and provider i + 1 is next.
 
 same_place : (i : ℕ) → i + 1 - 1 ≡ i
 same_place i = omega arith
-
-value_of : (r : Result ℕ Refusal) (n : ℕ) → numbered r ≡ Ok n → result_unwrap_or r 0 ≡ n
-value_of (Ok m) n e = cc
-value_of (Err x) n e = cc
 
 stepped_at : (p ys : List Provider) (y : Provider) (i : ℕ) (step : Provider → Provider)
     → length p ≡ i → row_after (i + 1) (p ++ y ∷ ys) step ≡ p ++ step y ∷ ys
@@ -28,15 +20,6 @@ stepped_at p ys y i step here =
     ∙ set_at p y ys (step y) i here
 
 module _ (row : List Provider) (i : ℕ) (more : i < length row) where
-  pub counted_more : (r : Result ℕ Refusal) (total : ℕ)
-      → total ≡ min (sum_by (λ p. length p.cells) (take i row)) (2 ^ 64 - 1)
-      → numbered r ≡ answer_of (i + 1) row (λ p. Ok (length p.cells))
-      → min (total + result_unwrap_or r 0) (2 ^ 64 - 1) ≡ min (sum_by (λ p. length p.cells) (take (i + 1) row)) (2 ^ 64 - 1)
-  counted_more r total so_far answered =
-      let n : ℕ = length (get_or row i absent).cells in
-      let found : numbered r ≡ Ok n = answered ∙ picked_inside (i + 1) row (λ p. Ok (length p.cells)) (Err 6) (omega arith) (omega arith) ∙ ap (λ k. Ok (length (get_or row k absent).cells)) (same_place i) in
-      omega (arith, value_of r n found, sum_by_more (λ p. length p.cells) row i absent more)
-
   pub stepped_more : (step : Provider → Provider)
       → row_after (i + 1) (map step (take i row) ++ drop i row) step ≡ map step (take (i + 1) row) ++ drop (i + 1) row
   stepped_more step =

@@ -1,5 +1,5 @@
 // What is done at every provider of a bank, through the bank's interface alone: by number, from 1 on, as a bank has no slice
-// of its providers. (A loop over `1..=n` ends in two ways, which its proof would have to tell apart.)
+// of its providers. (A loop over `1..=n` was tried: it ends in two ways, which its proof has to tell apart.)
 
 ghost use Rattle.std.specs.Prelude.{◌≡◌};
 ghost use Rattle.values.specs.Rank.{rank};

@@ -1,3 +1,4 @@
+pub mod Fills
 pub mod KeyedLists
 pub mod Listings
 mod CopySteps

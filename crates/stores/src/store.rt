@@ -27,7 +27,8 @@ pub trait Store<V: Kind> {
     fn get(&self, key: Key) -> Option<Stored<V>>
         ensures { option_map (pair_means V.Kind.code) result ≡ get_answer (rank key) (provider self.now) };
 
-    // Writes all keys, ascending, into the first places of the sheet, and answers how many there are.
+    // Writes all keys, ascending, into the first places of the sheet, and answers how many there are. (There is no heap: the
+    // caller lends the sheet.)
     fn list(&self, sheet: &mut [Key]) -> Result<usize, Refusal>
         ensures answer { numbered result ≡ list_answer (provider self.now) sheet.old }
         ensures after { sheet.new ≡ list_sheet (provider self.now) sheet.old };

@@ -40,6 +40,7 @@ impl Hold {
         }
     }
 
+    // The bytes of a hold. (No `From`: it would be public, and `write` is the one way to these bytes.)
     fn to_bytes(self) -> [u8; 11]
         ensures { result ≡ hold_code (hold_means self) }
     {

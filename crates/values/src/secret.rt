@@ -54,7 +54,7 @@ impl Secret {
     }
 }
 
-// Two secrets are equal where they mean the same bytes.
+// Two secrets are equal where they mean the same bytes. (A derived `==` would look at bytes past the length too.)
 impl PartialEq for Secret {
     ghost eq = { λ a b. pointwise ◌==◌ (contents a) (contents b) };
 

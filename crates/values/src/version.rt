@@ -42,7 +42,8 @@ impl Version {
         self == other
     }
 
-    // The version itself, as lists of keys give it: by its rank, which says both parts, as these have their widths.
+    // The version itself, as lists of keys give it: by its rank. (It is spelled out by its parts, which have their widths, since
+    // its contract follows from these.)
     pub fn ranked(self) -> Version
         ensures { result ≡ version_of (rank self) }
     {

@@ -1,4 +1,4 @@
-mod Fills
+mod Writes
 mod Searches
 mod Shifts
 mod Layouts

@@ -1,17 +1,14 @@
 -- What the entries of a table mean, before and after a put and a remove.
-use Rattle.std.proofs.Common.{◌≡◌, ℕ, ◌<◌, ◌≤◌, Bool, true, false, cond, ◌||◌, eqb, ltb, leb, List, [], ◌∷◌, ◌++◌, map, length, drop, is_some, Some, None, Ok, Err, Option, sym, refl, ap, ◌∙◌, arith}
-use denote.Ref.{Bor}
-use Rattle.std.specs.List as std
-use Rattle.std.specs.Option.{MatchOption, IsSomeAnd, option_map}
+use Rattle.std.proofs.Common.{◌≡◌, ℕ, ◌≤◌, Bool, true, cond, ◌||◌, ltb, leb, List, ◌++◌, map, length, drop, is_some, Some, None, Ok, Err, Option, sym, refl, ap, ◌∙◌, arith}
+use Rattle.std.specs.Option.{option_map}
 use Rattle.std.proofs.lemmas.List.{length-map}
 use Rattle.std.proofs.lemmas.Simd.{map-map}
-use Rattle.std.proofs.lemmas.Bool.{le-leb, lt-leb, cond-true, cond-false}
+use Rattle.std.proofs.lemmas.Bool.{le-leb, cond-true}
 use Rattle.values.specs.Rank.{version_of}
 use Rattle.values.specs.declared.version.Version.{Version}
 use Rattle.stores.specs.Keyed.{find, put, without}
 use Rattle.stores.specs.Provider.{Cell, Provider, cell_key, keys}
-use Rattle.stores.specs.Operations.{room_for, put_answer, put_after, remove_after, get_answer, list_answer, list_sheet, pair_means}
-use Rattle.stores.specs.declared.stored.Stored.{Stored}
+use Rattle.stores.specs.Operations.{room_for, put_answer, put_after, remove_after, get_answer, list_sheet}
 use Rattle.stores.proofs.KeyedLists.{cond_map, find_map, put_map, without_map}
 use Rattle.table.specs.Entries.{entry_key, entry_cell, entry_fits, put_entry}
 use Rattle.table.specs.declared.entry.Entry.{Entry}
@@ -19,10 +16,6 @@ use Rattle.table.specs.declared.entry.Entry.{Entry}
 mapped_some : {A B : Type 0} (f : A → B) (o : Option A) → is_some (option_map f o) ≡ is_some o
 mapped_some f None = refl
 mapped_some f (Some x) = refl
-
-mapped_twice : {A B C : Type 0} (h : B → C) (f : A → B) (o : Option A) → option_map h (option_map f o) ≡ option_map (λ x. h (f x)) o
-mapped_twice h f None = refl
-mapped_twice h f (Some x) = refl
 
 module _ {V : Type 0} (code : V → List ℕ) (room : ℕ) (us : List (Entry V)) where
   -- what these used entries mean
@@ -35,35 +28,15 @@ module _ {V : Type 0} (code : V → List ℕ) (room : ℕ) (us : List (Entry V))
   pub count_means : length (map (entry_cell code) us) ≡ length us
   count_means = length-map us (entry_cell code)
 
-  pub get_means : (k : ℕ) → get_answer k provider_of ≡ option_map (λ (e : Entry V). (entry_cell code e).pair) (find entry_key k us)
-  get_means k = ap (option_map (λ (c : Cell). c.pair)) (find_map entry_key cell_key (entry_cell code) (λ _. refl) k us) ∙ mapped_twice (λ (c : Cell). c.pair) (entry_cell code) (find entry_key k us)
+  -- what a get answers, by what stands under the key
+  pub get_means : (k : ℕ) (r : Option (Entry V)) → find entry_key k us ≡ r → option_map (λ (c : Cell). c.pair) (option_map (entry_cell code) r) ≡ get_answer k provider_of
+  get_means k r is = sym (ap (option_map (λ (c : Cell). c.pair)) (find_map entry_key cell_key (entry_cell code) (λ _. refl) k us ∙ ap (option_map (entry_cell code)) is))
 
-  -- the pair of the entry r that a search found, as the list's search for the key has it
-  pub got : (k : ℕ) (r : Option (Bor (Entry V))) (s : Option (Stored V)) → option_map (λ x. x.now) r ≡ std.find (λ (e : Entry V). eqb (entry_key e) k) us → (P : Bor (Entry V) → Stored V → Type 0) → MatchOption r (s ≡ None) (λ x. IsSomeAnd s (P x)) → ((x : Bor (Entry V)) (y : Stored V) → P x y → y ≡ record { version = x.now.version; value = x.now.value }) → option_map (pair_means code) s ≡ get_answer k provider_of
-  got k r s is P told means = pairs r s told ∙ (ap (option_map (λ (e : Entry V). (entry_cell code e).pair)) (is ∙ sym (find_std k us)) ∙ sym (get_means k))
-    where
-      find_std : (k : ℕ) (xs : List (Entry V)) → find entry_key k xs ≡ std.find (λ (e : Entry V). eqb (entry_key e) k) xs
-      find_std k [] = refl
-      find_std k (x ∷ xs) = ap (cond (eqb (entry_key x) k) (Some x)) (find_std k xs)
-
-      pairs : (r : Option (Bor (Entry V))) (s : Option (Stored V)) → MatchOption r (s ≡ None) (λ x. IsSomeAnd s (P x)) → option_map (pair_means code) s ≡ option_map (λ (e : Entry V). (entry_cell code e).pair) (option_map (λ x. x.now) r)
-      pairs None s h = ap (option_map (pair_means code)) h
-      pairs (Some x) None h = absurd h
-      pairs (Some x) (Some y) h = ap (λ z. Some (pair_means code z)) (means x y h)
-
-  pub list_short : (sheet : List Version) → length sheet < length us → (Err 16 ≡ list_answer provider_of sheet) × (sheet ≡ list_sheet provider_of sheet)
-  list_short sheet lt =
-      let n = count_means in
-      let f : leb (length (map (entry_cell code) us)) (length sheet) ≡ false = lt-leb _ _ (omega arith) in
-      (sym (cond-false _ (Ok (length (map (entry_cell code) us))) (Err 16) f), sym (cond-false _ (map version_of (keys provider_of) ++ drop (length (map (entry_cell code) us)) sheet) sheet f))
-
-  pub list_fits : (sheet after : List Version) → length us ≤ length sheet → after ≡ map (λ (e : Entry V). version_of (entry_key e)) us ++ drop (length us) sheet → (Ok (length us) ≡ list_answer provider_of sheet) × (after ≡ list_sheet provider_of sheet)
+  pub list_fits : (sheet after : List Version) → length us ≤ length sheet → after ≡ map (λ (e : Entry V). version_of (entry_key e)) us ++ drop (length us) sheet → after ≡ list_sheet provider_of sheet
   list_fits sheet after le eq =
       let n = count_means in
-      let f : leb (length (map (entry_cell code) us)) (length sheet) ≡ true = le-leb _ _ (omega arith) in (
-        sym (cond-true _ (Ok (length (map (entry_cell code) us))) (Err 16) f ∙ ap Ok n),
-        eq ∙ sym (cond-true _ (map version_of (keys provider_of) ++ drop (length (map (entry_cell code) us)) sheet) sheet f ∙ (ap (λ ks. ks ++ drop (length (map (entry_cell code) us)) sheet) keys_mean ∙ ap (λ i. map (λ (e : Entry V). version_of (entry_key e)) us ++ drop i sheet) n)),
-      )
+      let f : leb (length (map (entry_cell code) us)) (length sheet) ≡ true = le-leb _ _ (omega arith) in
+      eq ∙ sym (cond-true _ (map version_of (keys provider_of) ++ drop (length (map (entry_cell code) us)) sheet) sheet f ∙ (ap (λ ks. ks ++ drop (length (map (entry_cell code) us)) sheet) keys_mean ∙ ap (λ i. map (λ (e : Entry V). version_of (entry_key e)) us ++ drop i sheet) n))
 
   pub remove_means : (k : ℕ) (xs : List (Entry V)) → xs ≡ without entry_key k us → record { capacity = room; cells = map (entry_cell code) xs } ≡ remove_after k provider_of
   remove_means k xs is =

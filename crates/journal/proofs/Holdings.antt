@@ -1,7 +1,6 @@
 -- What a journal holds, and what it means as a provider, from its contents and its invariant.
-use Rattle.std.proofs.Common.{◌≡◌, ℕ, ◌+◌, ◌*◌, ◌/◌, ◌<◌, ◌≤◌, true, false, eqb, leb, List, ◌++◌, map, length, take, drop, Option, sym, refl, ap, ◌∙◌, mul-le-mul_right, add-mul, one-mul, div-mul-le_self, arith}
+use Rattle.std.proofs.Common.{◌≡◌, ℕ, ◌+◌, ◌*◌, ◌≤◌, true, false, eqb, leb, List, ◌++◌, map, length, take, drop, Option, sym, refl, ap, ◌∙◌, add-mul, one-mul, arith}
 use Rattle.std.specs.Option.{option_map}
-use Rattle.std.proofs.lemmas.Nat.{le-div}
 use Rattle.std.proofs.lemmas.List.{length-map}
 use Rattle.std.proofs.lemmas.Bool.{cond-true, cond-false, eq-eqb, le-leb}
 use Rattle.values.specs.Rank.{version_of}
@@ -96,15 +95,6 @@ pub written_is : (wide : ℕ) (code sheet sheet' : List ℕ) → length sheet �
 written_is wide code sheet sheet' l is = is ∙ cond-true (eqb (length sheet) wide) code sheet (eq-eqb (length sheet) wide l)
 
 -- how many keys fit
-
-pub room_fits : (n d c : ℕ) → c + 1 ≤ n / d → (c + 1) * d ≤ n
-room_fits n d c le =
-    let a = div-mul-le_self n d in
-    let b : (c + 1) * d ≤ n / d * d = mul-le-mul_right d le in
-    omega arith
-
-pub room_most : (n d k : ℕ) → 0 < d → (k + 1) * d ≤ n → k + 1 ≤ n / d
-room_most n d k p le = le-div (k + 1) n d p le
 
 pub one_more : (c d n : ℕ) → (c + 1) * d ≤ n → c * d + d ≤ n
 one_more c d n le =

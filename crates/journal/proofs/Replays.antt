@@ -1,5 +1,5 @@
 -- What the records of a log leave, and that packing keeps it.
-use Rattle.std.proofs.Common.{◌≡◌, ℕ, suc, ◌+◌, ◌*◌, ◌≤◌, true, false, cond, eqb, List, [], ◌∷◌, ◌++◌, length, Some, None, Option, sym, refl, ap, ◌∙◌, subst, ⊎_elim, suc-mul, arith}
+use Rattle.std.proofs.Common.{◌≡◌, ℕ, suc, ◌+◌, ◌*◌, ◌≤◌, Bool, true, false, cond, ◌&&◌, not, eqb, List, [], ◌∷◌, ◌++◌, length, Some, None, Option, sym, refl, ap, ◌∙◌, subst, ⊎_elim, suc-mul, arith}
 use Rattle.std.proofs.lemmas.List.{length-append}
 use Rattle.std.proofs.lemmas.Bool.{cases_Bool, or_right, both_ways, cond-true, cond-false, cond_both, and_parts, and_from, eqb-true, eq-eqb}
 use Rattle.stores.specs.Keyed.{find, put, without}
@@ -7,7 +7,7 @@ use Rattle.stores.specs.Provider.{Cell, cell_key}
 use Rattle.journal.specs.Record.{bit_map, record_key, record_cell, is_put, whole}
 use Rattle.journal.specs.Log.{joined, sound, step, replay_on, replay, mentions, live}
 use Rattle.journal.specs.Lawful.{ascends_replay}
-use Rattle.journal.specs.Walk.{seen, look_on}
+use Rattle.journal.specs.Walk.{seen, look_on, is_live}
 use Rattle.journal.proofs.Sizes.{size_le, whole_size}
 use Rattle.journal.proofs.Maps.{find_put, find_without, same_maps, length_put_new}
 
@@ -66,6 +66,15 @@ live_old r rs p m = cond-true (is_put r) _ (live rs) p ∙ cond-true (mentions (
 
 pub live_gone : (r : List ℕ) (rs : List (List ℕ)) → is_put r ≡ false → live (r ∷ rs) ≡ live rs
 live_gone r rs p = cond-false (is_put r) _ (live rs) p
+
+-- a live record stays
+live_by : {A : Type 0} (p m : Bool) (x y : A) → cond p (cond m y x) y ≡ cond (p && not m) x y
+live_by true true x y = refl
+live_by true false x y = refl
+live_by false m x y = refl
+
+pub live_stays : (r : List ℕ) (rs : List (List ℕ)) → is_live r rs ≡ true → live (r ∷ rs) ≡ r ∷ live rs
+live_stays r rs h = live_by (is_put r) (mentions (record_key r) rs) _ _ ∙ cond-true (is_live r rs) _ _ h
 
 look_hit : (o : Option Cell) (k : ℕ) (r : List ℕ) (rs : List (List ℕ)) → eqb (record_key r) k ≡ true → is_put r ≡ true → look_on o k (r ∷ rs) ≡ look_on (Some (record_cell r)) k rs
 look_hit o k r rs s p = ap (λ x. look_on x k rs) (cond-true (eqb (record_key r) k) (seen r) o s ∙ cond-true (is_put r) (Some (record_cell r)) None p)

@@ -29,7 +29,7 @@ short_fields b =
     let v : cond (form b).version 6 0 ≤ 6 = cond_both (form b).version 6 0 (λ n. n ≤ 6) (λ _. omega arith) (λ _. omega arith) in
     omega arith
 
-pub size_is : (w b : ℕ) → size w b ≡ 1 + ((form b).length + cond (form b).value w 0)
+size_is : (w b : ℕ) → size w b ≡ 1 + ((form b).length + cond (form b).value w 0)
 unfolding size
 size_is w b = refl
 

@@ -1,4 +1,4 @@
-ghost use Rattle.std.specs.Prelude.{◌≡◌, ℕ, ◌≤◌, List, length};
+ghost use Rattle.std.specs.Prelude.{◌≡◌, ℕ, List, length};
 ghost use Rattle.values.specs.Rank.{rank};
 ghost use Rattle.values.specs.Refusals.{numbered};
 ghost use Rattle.stores.specs.Provider.{cell};
@@ -18,13 +18,12 @@ use values::kind::Kind;
 use values::refusal::Refusal;
 use values::version::{Key, Version};
 
-// How many keys `n` bytes can hold with values `w` bytes wide.
-fn room_in(n: usize, w: usize) -> usize
-    requires { w ≤ 64 }
-    ensures is { result ≡ room_in w n }
-    ensures most { Largest w n result }
+// How many keys `n` bytes can hold with values of a kind.
+fn room_in<V: Kind>(n: usize) -> usize
+    ensures is { result ≡ room_in V.Kind.WIDTH n }
+    ensures most { Largest V.Kind.WIDTH n result }
 {
-    (n / (13 + w)).saturating_sub(1).min(32)
+    (n / (13 + V::WIDTH)).saturating_sub(1).min(32)
 }
 
 // The value that the bytes mean, or the blank value where they mean none.
@@ -41,13 +40,11 @@ impl<'a> Journal<'a> {
         ensures log { Holds result (empty V.Kind.WIDTH (length bytes.old)) }
         ensures room { Largest V.Kind.WIDTH (length bytes.old) result.room }
     {
-        let n = bytes.len();
-        let width = V::WIDTH;
+        let room = room_in::<V>(bytes.len());
         bytes.fill(0);
-        let room = room_in(n, width);
         Journal {
             bytes,
-            width,
+            width: V::WIDTH,
             room,
             used: 0,
             count: 0,

@@ -53,7 +53,9 @@ pub(crate) fn form_of(map: u8) -> Form
     FORMS[map as usize].unwrap()
 }
 
-// How long the record is that begins with the bit map, where values are `w` bytes wide.
+// How long the record is that begins with the bit map, where values are `w` bytes wide. (That `w` is at most 64 is asked for
+// here, by `Records::new`, and by `compact` and `pack`; `NewRecord::of_put` asks it of the length of its value. Bytes alone do
+// not say it. A type for widths would be a number, taken out again at each sum and slice.)
 pub(crate) fn size_of(map: u8, w: usize) -> usize
     requires narrow { w ≤ 64 }
     requires known { known map ≡ true }

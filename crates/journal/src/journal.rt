@@ -4,7 +4,8 @@ ghost use Rattle.journal.specs.Log.{log, sound, replay};
 use crate::records::Records;
 
 // A provider as a log of records in the first `used` bytes of a lent slice, with zeros after them. It is made for values
-// of one width, and serves every kind of that width; for kinds of another width it has no room.
+// of one width, and serves every kind of that width; for kinds of another width it has no room. (There is no heap: the bytes
+// are lent, so how many of them are used stands beside them.)
 #[derive(Drop)]
 pub struct Journal<'a> {
     pub(crate) bytes: &'a mut [u8],

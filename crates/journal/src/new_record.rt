@@ -3,7 +3,8 @@ ghost use Rattle.journal.specs.Forms.{known};
 
 use values::version::{Key, Version};
 
-// A record to be written: its bit map, and the fields, of which those stand that the bit map names.
+// A record to be written: its bit map, and beside it the fields as they are passed to `encoded`, which writes those that the
+// bit map names. Of a remove the version and the value are not written.
 #[derive(Clone, Copy, Drop)]
 pub struct NewRecord<'v> {
     pub(crate) map: u8,

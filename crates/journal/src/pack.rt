@@ -6,7 +6,9 @@ ghost use Rattle.journal.specs.Walk.{packed, Logged};
 use crate::records::Records;
 
 // Moves the live records to the front, in their order, and answers where they end. A record is live if it is a put and
-// no later record has its key. (The walk goes by place, and not over one iterator, since it writes the bytes it walks over.)
+// no later record has its key. (The walk goes by place, and not over one iterator, since it writes the bytes it walks over. The
+// search of the later records stands here, left by a label at the first hit, though `is_live` says the same: the project keeps
+// this form of packing.)
 fn compact(bytes: &mut [u8], w: usize) -> usize
     requires narrow { w ≤ 64 }
     requires whole { sound w (log w bytes.old) ≡ true }

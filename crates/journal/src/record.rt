@@ -15,7 +15,8 @@ pub struct Record<'a> {
     ghost long: { 1 + (form (bit_map bytes.now)).length ≤ length bytes.now },
 }
 
-// The key or the version in the six bytes from `at` on.
+// The key or the version in the six bytes from `at` on. (No `From` of six bytes: the trait and both types are of other crates,
+// so it could stand only in `values`, and would be public there.)
 fn version_at(bytes: &[u8], at: usize) -> Version
     requires { at + 6 ≤ length bytes.now }
     ensures { rank result ≡ rank_at at bytes.now }

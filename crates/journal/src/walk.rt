@@ -6,6 +6,7 @@ ghost use Rattle.stores.specs.Keyed.{find as found_under};
 ghost use Rattle.stores.specs.Provider.{cell_key};
 ghost use Rattle.journal.specs.Log.{log, mentions, replay};
 ghost use Rattle.journal.specs.Record.{record_cell, record_value};
+ghost use Rattle.journal.specs.Walk.{is_live};
 
 use crate::record::Record;
 use crate::records::Records;
@@ -26,8 +27,15 @@ pub(crate) fn find<'a>(records: Records<'a>, key: Key) -> Option<Record<'a>>
 }
 
 // Whether one of the records has the key.
-pub(crate) fn is_mentioned(mut records: Records, key: Key) -> bool
+fn is_mentioned(mut records: Records, key: Key) -> bool
     ensures { result ≡ mentions (rank key) (log records.entry.width records.entry.bytes.now) }
 {
     records.any(|record| record.has_key(key))
+}
+
+// Whether a record is live: a put, and none of the later records has its key.
+pub(crate) fn is_live(record: &Record, later: Records) -> bool
+    ensures { result ≡ is_live «record».now.bytes.now (log later.entry.width later.entry.bytes.now) }
+{
+    record.is_put() && !is_mentioned(later, record.key())
 }

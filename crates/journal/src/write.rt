@@ -5,11 +5,12 @@ ghost use Rattle.stores.specs.Provider.{cell};
 ghost use Rattle.journal.specs.Record.{six_bytes, field as as_field, put_map, remove_map, put_record, remove_record};
 ghost use Rattle.journal.specs.Walk.{encoding, overlay};
 
-use crate::forms::form_of;
+use crate::forms::{form_of, size_of};
 use crate::new_record::NewRecord;
 use values::version::{Key, Version};
 
-// The six bytes of a key or a version.
+// The six bytes of a key or a version. (No `From`: the trait and both types are of other crates, so it could stand only in
+// `values`, and would be public there.)
 fn six_bytes(version: Version) -> [u8; 6]
     ensures { result ≡ six_bytes (rank version) }
 {
@@ -81,8 +82,7 @@ impl<'v> NewRecord<'v> {
     pub(crate) fn len(&self) -> usize
         ensures { result ≡ length (encoding self.now) }
     {
-        let form = form_of(self.map);
-        1 + form.length + if form.value { self.value.len() } else { 0 }
+        size_of(self.map, self.value.len())
     }
 
     // Writes the record at `at`, and answers where it ends.

@@ -5,8 +5,8 @@ use Rattle.journal.proofs.Sixes.{rank_fits}
 use Rattle.journal.proofs.Encodings.{put_back, remove_back}
 use Rattle.journal.proofs.codec.codec_lawful.Goals as goal
 
-pub returns : goal.returns
-returns c = record {
-  put = put_back (length c.args.value.now) (cell c.args.key c.args.version c.args.value.now) (rank_fits c.args.key (omega arith) (omega arith)) (rank_fits c.args.version (omega arith) (omega arith)) refl;
-  remove = remove_back (length c.args.value.now) (rank c.args.key) (rank_fits c.args.key (omega arith) (omega arith));
-}
+pub returns-clause-put : goal.returns-clause-put
+returns-clause-put c = put_back (length c.args.value.now) (cell c.args.key c.args.version c.args.value.now) (rank_fits c.args.key (omega arith) (omega arith)) (rank_fits c.args.version (omega arith) (omega arith)) refl
+
+pub returns-clause-remove : goal.returns-clause-remove
+returns-clause-remove c = remove_back (length c.args.value.now) (rank c.args.key) (rank_fits c.args.key (omega arith) (omega arith))

@@ -1,5 +1,4 @@
-use Rattle.std.proofs.Common.{List, ℕ, Some, None, Option, length, sym, ap, ◌∙◌}
-use Rattle.std.proofs.lemmas.Bool.{eqb-true}
+use Rattle.std.proofs.Common.{List, ℕ, Some, None, Option, sym, ap, ◌∙◌}
 use Rattle.stores.specs.Keyed.{find}
 use Rattle.stores.specs.Provider.{Pair, cell_key}
 use Rattle.stores.specs.Operations.{pair_means}
@@ -16,10 +15,6 @@ returns-in_err-record g c =
     let f = normal g.V.Kind.decoded g.V.Kind.coded (g.V.Kind.code g.V.Kind.nothing) in
     ap (option_map (pair_means g.V.Kind.code)) c.from_residual.ensures ∙
     got g.V.Kind.WIDTH f c.args.self.now (rank c.args.key) None (sym c.serves.ensures ∙ c.if-not-serves.false) (c.in_err-record.ensures.seen ∙ ap (λ rs. find cell_key (rank c.args.key) (replay rs)) c.records.ensures.log)
-
-pub restore-requires : goal.restore-requires
-restore-requires g c =
-    ap length c.value.ensures ∙ (c.in_ok-record.ensures.wide ∙ (c.records.ensures.width ∙ eqb-true c.args.self.now.width g.V.Kind.WIDTH (sym c.serves.ensures ∙ c.if-not-serves.false)))
 
 pub returns : goal.returns
 returns g c =

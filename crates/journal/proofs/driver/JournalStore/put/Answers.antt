@@ -1,5 +1,4 @@
-use Rattle.std.proofs.Common.{◌≡◌, length, sym, ap, ◌∙◌, arith}
-use Rattle.std.proofs.lemmas.Bool.{eqb-true}
+use Rattle.std.proofs.Common.{◌≡◌, sym, ap, ◌∙◌, arith}
 use Rattle.std.proofs.lemmas.List.{length-take}
 use Rattle.stores.specs.Provider.{cell}
 use Rattle.journal.specs.Normal.{normal}
@@ -13,14 +12,6 @@ pub returns-then-not-serves-clause-log : goal.returns-then-not-serves-clause-log
 returns-then-not-serves-clause-log g c =
     let f = normal g.V.Kind.decoded g.V.Kind.coded (g.V.Kind.code g.V.Kind.nothing) in
     put_other g.V.Kind.WIDTH f c.args.self.now (cell c.args.key c.args.version (g.V.Kind.code c.args.value)) (sym c.serves.ensures ∙ c.if-not-serves.true)
-
-pub put_bytes-requires : goal.put_bytes-requires
-put_bytes-requires g c =
-    let w = g.met.V.Kind.width in
-    let n = c.WIDTH.ensures in
-    let own = eqb-true c.args.self.now.width g.V.Kind.WIDTH (sym c.serves.ensures ∙ c.if-not-serves.false) in
-    let v : c.write.new.sheet ≡ g.V.Kind.code c.args.value = written_is g.V.Kind.WIDTH _ _ _ (simp length-take (omega arith)) c.write.ensures.after in
-    ap length v ∙ (g.met.V.Kind.whole c.args.value ∙ sym own)
 
 pub returns : goal.returns
 returns g c =

@@ -5,10 +5,7 @@
 pub mod answer;
 pub mod call;
 pub mod key_list;
-pub mod key_lists;
 pub mod line;
-pub mod lines;
 pub mod moves;
 pub mod requests;
 pub mod seat;
-pub mod seats;

@@ -18,7 +18,9 @@ use values::kind::Kind;
 use values::refusal::Refusal;
 use values::version::{Key, Version};
 
-// How an answer moves a line. Each function changes what says how far the line is, and leaves the rest.
+// How an answer moves a line. Each function changes what says how far the line is, and leaves the rest. (Here, in `requests`
+// and in the crate `relay`, functions match on phase, stage and request, as the protocol's definitions do: these are data,
+// which records hold and compare, and no closures.)
 impl<V: Kind> Line<V> {
     fn to_stage(self, stage: Stage) -> Line<V>
         ensures { progress_means V.Kind.code result ≡ to_stage stage (progress_means V.Kind.code self) }
@@ -63,6 +65,8 @@ impl<V: Kind> Line<V> {
         })
     }
 
+    // The listing phase. (`after_list` differs in the last step alone. With that as a closure, its contract would be told by
+    // the closure's steps, and each caller's by what it then comes to.)
     fn after_listing(self, answer: Result<Reply<V>, Refusal>) -> Line<V>
         ensures { progress_means V.Kind.code result ≡ advance_listing (answer_means V.Kind.code answer) (progress_means V.Kind.code self) }
     {

@@ -12,9 +12,6 @@ use Rattle.banks.specs.Row.{has, absent, picked, answer_of}
 pub answer_inside : {T : Type 0} (i : ℕ) (row : List Provider) (f : Provider → Result T ℕ) (x : Result T ℕ) → has i row ≡ true → x ≡ answer_of i row f → x ≡ f (get_or row (i - 1) absent)
 answer_inside i row f x there eq = eq ∙ cond-true (has i row) (f (get_or row (i - 1) absent)) (Err 6) there
 
-pub ok_same : {T E : Type 0} {x y : T} → ◌≡◌ {A = Result T E} (Ok x) (Ok y) → x ≡ y
-ok_same eq = cc
-
 ranks_back : (ks : List ℕ) → map rank (map version_of ks) ≡ ks
 ranks_back [] = refl
 ranks_back (k ∷ ks) = cc (rank_version_of k, ranks_back ks)

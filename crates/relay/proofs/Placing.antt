@@ -1,13 +1,13 @@
 -- A seat and its own lines in the sheets: what a step of theirs is to the state of the sheets.
-use Rattle.std.proofs.Common.{◌≡◌, ℕ, ◌*◌, Bool, List, ◌++◌, length, get_or, take, drop, set, sym, ap, ◌∙◌, ap₂, arith, length-drop}
-use Rattle.std.proofs.lemmas.List.{map-set, map-append, length-map, length-take-le, set-get_or, take-append-drop, drop-set-lt}
+use Rattle.std.proofs.Common.{◌≡◌, ℕ, ◌+◌, ◌*◌, ◌<◌, ◌≤◌, Bool, List, ◌++◌, length, get_or, take, drop, set, sym, ap, ◌∙◌, ap₂, arith, length-drop}
+use Rattle.std.proofs.lemmas.List.{map-set, map-append, length-map, length-take-le, get_or-map, set-get_or, take-append-drop, drop-set-lt}
 use Rattle.std.proofs.lemmas.Slice.{drop-put_mid}
 use borrow.Rule.Slice.PartMut.{put_mid}
 use Rattle.stores.specs.Provider.{Provider}
 use Rattle.protocol.specs.Answers.{Answer}
 use Rattle.protocol.specs.Lines as lin
 use Rattle.protocol.specs.Seats as sea
-use Rattle.protocol.specs.State.{State}
+use Rattle.protocol.specs.State.{State, line_at}
 use Rattle.records.specs.Means.{line_means, seat_means}
 use Rattle.records.specs.declared.line.Line.{Line}
 use Rattle.records.specs.declared.seat.Seat.{Seat}
@@ -16,7 +16,7 @@ use Rattle.relay.specs.Effects.{Others, among, Steps, BeyondAll}
 use Rattle.relay.specs.Sheets.{sheets_state, seats_mean, lines_mean}
 use Rattle.relay.specs.declared.place.SeatPlace.{SeatPlace}
 
-module _ {V : Type 0} (seats : List (Seat V)) (lines : List (Line V)) (m n : ℕ) (at : SeatPlace) (k : ℕ) (counts : k ≡ at.providers) (w : Within m n (length seats) (length lines) at) where
+module _ {V : Type 0} (seats : List (Seat V)) (lines : List (Line V)) {m n : ℕ} {at : SeatPlace} {k : ℕ} (counts : k ≡ at.providers) (w : Within m n (length seats) (length lines) at) where
   abbrev own : List (Line V)
   own = take k (drop at.start lines)
 
@@ -59,3 +59,33 @@ module _ {V : Type 0} (seats : List (Seat V)) (lines : List (Line V)) (m n : ℕ
         ∙ (h others (omega (arith, length-map seats (seat_means code), w.seat, w.seats)) (length-map (take at.start lines) (line_means code) ∙ (length-take-le at.start lines (omega (arith, w.end, w.lines)) ∙ (w.start ∙ ap (λ j. at.seat * j) (sym own_long))))
         ∙ (ap (λ j. step j (among others at.seat (seat_means code (get_or seats at.seat x)) (lines_mean code own) looked)) own_long
         ∙ ap (step at.providers) (sym (stood x looked))))
+
+-- a seat, its own lines, and one of them lie in the sheets
+module _ {m n seats lines : ℕ} {at : SeatPlace} (w : Within m n seats lines at) where
+  pub seat_within : at.seat < seats
+  seat_within = omega (arith, w.seat, w.seats)
+
+  pub own_within : at.start ≤ lines
+  own_within = omega (arith, w.end, w.lines)
+
+  pub line_within : (i : ℕ) → i < at.providers → at.start + i < lines
+  line_within i here = omega (arith, w.end, w.lines, here)
+
+-- one line of a seat, as a call reads and writes it
+module _ {V : Type 0} (code : V → List ℕ) (lines : List (Line V)) {m n seats : ℕ} {at : SeatPlace} (w : Within m n seats (length lines) at) {i : ℕ} (here : i < at.providers) where
+  pub line_read : (x : Line V) → line_means code (get_or lines (at.start + i) x) ≡ line_at at.providers (lines_mean code lines) at.seat i
+  line_read x =
+      sym (get_or-map (line_means code) lines (at.start + i) x lin.blank_line (line_within w i here))
+      ∙ ap (λ j. get_or (lines_mean code lines) (j + i) lin.blank_line) w.start
+
+  pub line_written : (next : Line V) → lines_mean code (set lines (at.start + i) next) ≡ set (lines_mean code lines) (at.seat * at.providers + i) (line_means code next)
+  line_written next =
+      map-set (line_means code) lines (at.start + i) next
+      ∙ ap (λ j. set (lines_mean code lines) (j + i) (line_means code next)) w.start
+
+  pub line_beyond : (next : Line V) → drop (m * n) (set lines (at.start + i) next) ≡ drop (m * n) lines
+  line_beyond next = drop-set-lt (m * n) lines (at.start + i) next (omega (arith, w.end, here))
+
+-- a line that is written as it was read
+pub line_kept : {V : Type 0} (lines : List (Line V)) (k : ℕ) (x next : Line V) → next ≡ get_or lines k x → set lines k next ≡ lines
+line_kept lines k x next same = ap (set lines k) same ∙ set-get_or lines k x

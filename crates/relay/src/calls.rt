@@ -1,4 +1,6 @@
-// The calls of a relay. Each makes exactly the protocol's step, or is refused, and then changes nothing.
+// The calls of a relay. Each makes exactly the protocol's step, or is refused, and then changes nothing. (The sheets of seats
+// and lines are two slices that the caller lends to each call. Post and land only read the seats, stop only reads the lines,
+// and lose changes neither: a struct of both would ask for more than a call needs.)
 ghost use Rattle.std.specs.Prelude.{◌≡◌, ◌*◌, true, drop, is_err};
 ghost use Rattle.banks.specs.Row.{size_of};
 ghost use Rattle.protocol.specs.Answers.{begin_write as write_call, begin_read as read_call, post as post_call, fetch as fetch_call, stop as stop_call};
@@ -64,7 +66,8 @@ impl<B> Relay<B> {
         )
     }
 
-    // A seat begins an operation.
+    // A seat begins an operation. (`beyond` and `refusal` stand here and at the two calls below: they are what each of them
+    // promises, in full, and a name for both would have to be looked up at each.)
     fn begin<V: Kind>(
         &self,
         seats: &mut [Seat<V>],

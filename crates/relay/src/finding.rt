@@ -1,5 +1,6 @@
-// Which seat, line or provider a call is about, by number, where the sheets have so many places. (These two counts are only
-// passed on; a struct of them would be no plainer.)
+// Which seat, line or provider a call is about, by number, where the sheets have so many places. (These two counts, and
+// the numbers of a seat and a provider, are only passed on: a struct of either would be made by each caller and taken apart at
+// once.)
 ghost use Rattle.std.specs.Prelude.{◌≡◌, ◌<◌, IfOk};
 ghost use Rattle.values.specs.Refusals.{numbered};
 ghost use Rattle.banks.specs.Row.{size_of};

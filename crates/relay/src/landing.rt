@@ -17,7 +17,8 @@ use values::kind::Kind;
 use values::refusal::Refusal;
 use values::version::Key;
 
-// The keys of provider i, of which a line keeps at most 32.
+// The keys of provider i, of which a line keeps at most 32. (That there is a provider i is asked for here and in `ask`: a type
+// for such a number would borrow the bank, which `ask` changes.)
 fn ask_keys<V: Kind, B: Bank<V>>(bank: &B, i: usize) -> Result<KeyList, Refusal>
     requires { has i (B.Bank.row bank.now) ≡ true }
     ensures { Keyed result (slice_index_or (B.Bank.row bank.now) (i - 1) absent) }

@@ -1,45 +1,17 @@
 // Providers that are lost, the count of second looks, and the end of a relay.
-ghost use Rattle.std.specs.Prelude.{◌≡◌, true, false, is_err, slice_index_or, slice_set};
+ghost use Rattle.std.specs.Prelude.{◌≡◌, true, is_err};
 ghost use Rattle.std.specs.Option.{option_map};
 ghost use Rattle.values.specs.Refusals.{numbered, refusal_number};
 ghost use Rattle.protocol.specs.Answers.{lose as lose_call};
-ghost use Rattle.relay.specs.RelayState.{relay_means, relay_step, lost_flags, looks_answer};
+ghost use Rattle.relay.specs.RelayState.{relay_means, relay_step, looks_answer};
 ghost use Rattle.relay.specs.Sheets.{acknowledged};
 
-use crate::inner::{Inner, ProviderRecord};
 use crate::relay::Relay;
 use banks::bank::Bank;
 use records::line::Line;
 use records::seat::Seat;
 use values::kind::Kind;
 use values::refusal::Refusal;
-
-impl ProviderRecord {
-    // The provider is lost for good.
-    pub(crate) fn lose(&mut self)
-        ensures { self.new ≡ record { lost = true } }
-    {
-        self.lost = true;
-    }
-}
-
-impl Inner {
-    // Whether the provider at a place is lost.
-    pub(crate) fn is_lost(&self, i: usize) -> bool
-        ensures { result ≡ slice_index_or (lost_flags self.now) i false }
-    {
-        self.providers.get(i).is_some_and(|provider| provider.lost)
-    }
-
-    // The provider at a place is lost for good. (By index, as a proof knows nothing of what is written through `get_mut`.)
-    pub(crate) fn lose(&mut self, i: usize)
-        ensures { self.new ≡ record self.old { providers = slice_set self.old.providers i (record { lost = true }) } }
-    {
-        if i < self.providers.len() {
-            self.providers[i].lose();
-        }
-    }
-}
 
 impl<B> Relay<B> {
     // A provider is lost for good. Answers that it has given can still be fetched.

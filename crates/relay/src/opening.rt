@@ -1,12 +1,12 @@
 // Opening a relay.
-ghost use Rattle.std.specs.Prelude.{◌≡◌, ◌-◌, ◌*◌, ◌≤◌, true, false, length, drop, is_err, replicate, OnOk, slice_index_or};
+ghost use Rattle.std.specs.Prelude.{◌≡◌, ◌-◌, ◌*◌, ◌≤◌, true, length, drop, is_err, replicate, OnOk, slice_index_or};
 ghost use Rattle.values.specs.Refusals.{numbered};
 ghost use Rattle.banks.specs.Row.{has, absent, size_of};
 ghost use Rattle.relay.specs.Opening.{suits, is_empty, first_are, open_check, opened};
 ghost use Rattle.relay.specs.RelayState.{relay_state};
 ghost use Rattle.relay.specs.Sheets.{seats_mean, lines_mean};
 
-use crate::inner::{Inner, ProviderRecord};
+use crate::inner::Inner;
 use crate::relay::Relay;
 use banks::bank::Bank;
 use records::line::Line;
@@ -14,7 +14,8 @@ use records::seat::Seat;
 use values::kind::Kind;
 use values::refusal::Refusal;
 
-// Whether open accepts the capacity of provider i for m seats.
+// Whether open accepts the capacity of provider i for m seats. (That there is a provider i is asked for here and in
+// `is_unused`: each is called in one place, in a loop over the numbers that there are.)
 fn is_suitable<V: Kind, B: Bank<V>>(bank: &B, i: usize, m: usize) -> bool
     requires has { has i (B.Bank.row bank.now) ≡ true }
     requires seats { m ≤ 16 }
@@ -48,16 +49,6 @@ fn all_unused<V: Kind, B: Bank<V>>(bank: &B) -> bool
     (0..bank.size()).all(|i| is_unused::<V, B>(bank, i + 1))
 }
 
-// Sets each record to a blank one. (The library's `fill` asks that a clone cannot fail, which no bound of a kind says, and
-// `fill_with` tells what it wrote by the closure's steps.)
-fn set_all<T: Copy>(records: &mut [T], blank: T)
-    ensures { records.new ≡ replicate (length records.old) blank }
-{
-    for record in records.iter_mut() {
-        *record = blank;
-    }
-}
-
 // Whether open accepts m seats over a bank, with sheets of so many places.
 fn may_open<V: Kind, B: Bank<V>>(
     bank: &B,
@@ -84,20 +75,6 @@ fn may_open<V: Kind, B: Bank<V>>(
     Ok(())
 }
 
-impl Inner {
-    // A relay's own record, with no provider lost and no second look.
-    fn new(refused: Option<Refusal>, seats: u8) -> Inner
-        ensures { result ≡ record { refused = refused; seats = seats; providers = replicate 7 (record { lost = false }); looks = 0 } }
-    {
-        Inner {
-            refused,
-            seats,
-            providers: [ProviderRecord { lost: false }; 7],
-            looks: 0,
-        }
-    }
-}
-
 // Opens a relay of m seats over a bank, which it takes, and clears the first m seats and the first m × n lines. A refused
 // open hands over a relay too, that answers the refusal to every call but shut.
 pub fn open<V: Kind, B: Bank<V>>(
@@ -114,8 +91,10 @@ pub fn open<V: Kind, B: Bank<V>>(
 {
     match may_open::<V, B>(&bank, m, seats.len(), lines.len()) {
         Ok(()) => {
-            set_all(&mut seats[..m], Seat::blank());
-            set_all(&mut lines[..m * bank.size()], Line::blank());
+            let seat = Seat::blank();
+            let line = Line::blank();
+            seats[..m].fill_with(|| seat);
+            lines[..m * bank.size()].fill_with(|| line);
             let inner = Inner::new(None, m as u8);
             (Relay { bank, inner }, Ok(()))
         }

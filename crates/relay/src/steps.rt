@@ -1,4 +1,6 @@
-// The steps of the calls on one seat and its own lines, once these are known to be there.
+// The steps of the calls on one seat and its own lines, once these are known to be there. (A seat and its lines lie in two
+// sheets, and are lent with other rights: post reads the seat, stop changes it alone. A struct of the two borrows would be
+// made at each call and taken apart at each step.)
 ghost use Rattle.std.specs.Prelude.{◌≡◌, ℕ, ◌<◌, true, map, length, is_ok, is_err, if◌then◌else◌};
 ghost use Rattle.protocol.specs.Lines.{restart_line};
 ghost use Rattle.protocol.specs.Phases.{phase_result};

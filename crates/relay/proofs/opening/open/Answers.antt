@@ -1,4 +1,5 @@
-use Rattle.std.proofs.Common.{◌*◌, ◌≤◌, ◌++◌, length, drop, sym, ap, ◌∙◌, subst}
+use Rattle.std.proofs.Common.{◌*◌, ◌≤◌, ◌++◌, length, replicate, drop, sym, ap, ◌∙◌, subst, rules}
+use Rattle.stores.proofs.Fills.{given_always}
 use Rattle.protocol.specs.Lines as lin
 use Rattle.records.specs.Means.{line_means, seat_means}
 use Rattle.relay.specs.Opening.{cleared, fresh_seat, opened}
@@ -17,8 +18,10 @@ returns-in-Ok-clause-state g c =
     let S = seats_mean code c.args.seats.now in
     let L = lines_mean code c.args.lines.now in
     let w = c.in-Ok.ensures.within in
-    let seats = cleared_means (seat_means code) c.blank.result (fresh_seat nothing) m c.args.seats.now c.set_all.new.records w.1 c.blank.ensures c.set_all.ensures in
-    let lines = cleared_means (line_means code) c.blank-in-Ok.result lin.blank_line (m * n) c.args.lines.now c.set_all-in-Ok.new.records (subst (λ n. m * n ≤ length c.args.lines.now) (sym c.size.ensures) w.2) c.blank-in-Ok.ensures c.set_all-in-Ok.ensures in
-    ap (λ q. relay_state code row q (c.set_all.new.records ++ drop m c.args.seats.now) (c.set_all-in-Ok.new.records ++ drop (m * n) c.args.lines.now)) c.new-inner.ensures
+    let first = given_always _ _ c.blank-seat.result (λ x q r. search rules) c.fill_with.new.self c.fill_with.ensures.ran.0 c.fill_with.ensures.ran.1 in
+    let own = given_always _ _ c.blank-line.result (λ x q r. search rules) c.fill_with-in-Ok.new.self c.fill_with-in-Ok.ensures.ran.0 c.fill_with-in-Ok.ensures.ran.1 in
+    let seats = cleared_means (seat_means code) c.blank-seat.result (fresh_seat nothing) m c.args.seats.now c.fill_with.new.self w.1 c.blank-seat.ensures (first ∙ ap (λ k. replicate k c.blank-seat.result) c.fill_with.ensures.len) in
+    let lines = cleared_means (line_means code) c.blank-line.result lin.blank_line (m * n) c.args.lines.now c.fill_with-in-Ok.new.self (subst (λ n. m * n ≤ length c.args.lines.now) (sym c.size.ensures) w.2) c.blank-line.ensures (own ∙ ap (λ k. replicate k c.blank-line.result) c.fill_with-in-Ok.ensures.len) in
+    ap (λ q. relay_state code row q (c.fill_with.new.self ++ drop m c.args.seats.now) (c.fill_with-in-Ok.new.self ++ drop (m * n) c.args.lines.now)) c.new-inner.ensures
     ∙ (opened_by m row seats (lines ∙ ap (λ n. cleared lin.blank_line (m * n) L) c.size.ensures)
     ∙ ap (λ o. opened o m nothing row S L) c.in-Ok.ensures.answer)

@@ -1,9 +1,6 @@
 use Rattle.std.proofs.Common.{refl}
 use Rattle.relay.proofs.relay.Relay.call.Goals as goal
 
-pub returns-in-BeginWrite-clause-refusal : goal.returns-in-BeginWrite-clause-refusal
-returns-in-BeginWrite-clause-refusal g c = λ e. let h = c.begin_write.ensures.refusal (c.accepted.ensures.refusal e) in (h.0, h.1, refl)
-
 pub returns-in-BeginRead-clause-refusal : goal.returns-in-BeginRead-clause-refusal
 returns-in-BeginRead-clause-refusal g c = λ e. let h = c.begin_read.ensures.refusal (c.accepted-in-BeginRead.ensures.refusal e) in (h.0, h.1, refl)
 

@@ -1,56 +1,31 @@
-use Rattle.std.proofs.Common.{◌+◌, ◌*◌, ◌<◌, length, get_or, set, refl, ap, ◌∙◌, sym, arith}
-use Rattle.std.proofs.lemmas.List.{get_or-map, map-set, set-get_or, drop-set-lt}
 use borrow.Author.Rules.{scaled_Fits}
-use Rattle.banks.specs.Row.{size_of}
-use Rattle.protocol.specs.Answers as ans
-use Rattle.protocol.specs.Lines.{blank_line}
 use Rattle.protocol.specs.Seats.{blank_seat}
-use Rattle.records.specs.Means.{line_means, seat_means}
-use Rattle.relay.specs.RelayState.{relay_state}
-use Rattle.relay.specs.Sheets.{acknowledged, lines_mean}
+use Rattle.records.specs.Means.{seat_means}
+use Rattle.relay.specs.Sheets.{acknowledged}
 use Rattle.relay.proofs.Own.{read_at}
+use Rattle.relay.proofs.Placing.{line_kept, seat_within, line_within, line_read, line_written, line_beyond}
 use Rattle.relay.proofs.RelaySteps.{call_refused, call_made, post_refused, post_found, post_done}
 use Rattle.relay.proofs.relay.Relay.post.Goals as goal
 
 pub offset_bounds-lines-at : goal.offset_bounds-lines-at
-offset_bounds-lines-at g c =
-    let w = c.in_ok-at.ensures.within in
-    let lt : c.in_ok-at.at.seat.start + c.in_ok-at.at.provider < length c.args.lines.now = omega (arith, w.end, w.lines, c.in_ok-at.ensures.provider) in
-    scaled_Fits (c.in_ok-at.at.seat.start + c.in_ok-at.at.provider) (length c.args.lines.now) _ lt (search c.well_formed)
+offset_bounds-lines-at g c = scaled_Fits _ _ _ (line_within c.in_ok-at.ensures.within _ c.in_ok-at.ensures.provider) (search c.well_formed)
 
-pub returns-in_err-at : goal.returns-in_err-at
-returns-in_err-at g c =
-    let code = g.V.Kind.code in
-    let row = g.B.Bank.row c.args.self.now.bank in
-    let r = c.args.self.now.inner in
-    let R = relay_state code row r c.args.seats.now c.args.lines.now in
-    record {
-      step = call_refused code row r c.args.seats.now c.args.lines.now (ans.post c.args.seat c.args.provider) acknowledged c.in_err-at.field-0.0 _ c.from_residual.ensures.1 (post_refused R c.args.seat c.args.provider _ _ c.in_err-at.ensures.answer);
-      beyond = refl;
-      refusal = λ _. refl;
-    }
+pub returns-in_err-at-clause-step : goal.returns-in_err-at-clause-step
+returns-in_err-at-clause-step g c =
+    call_refused g.V.Kind.code _ _ _ _ _ acknowledged _ _ c.from_residual.ensures.1 (post_refused _ _ _ _ _ c.in_err-at.ensures.answer)
 
 pub returns : goal.returns
 returns g c =
     let code = g.V.Kind.code in
-    let row = g.B.Bank.row c.args.self.now.bank in
-    let r = c.args.self.now.inner in
-    let seats = c.args.seats.now in
-    let lines = c.args.lines.now in
-    let R = relay_state code row r seats lines in
-    let at = c.in_ok-at.at in
     let w = c.in_ok-at.ensures.within in
-    let i = at.seat.start + at.provider in
-    let next = c.post_line.new.line in
-    let is = map-set (line_means code) lines i next ∙ ap (λ j. set (lines_mean code lines) (j + at.provider) (line_means code next)) w.start in
+    let here = c.in_ok-at.ensures.provider in
     let x = c.index-lines-at.result in
-    let l = line_means code (get_or lines i x) in
-    let was = sym (get_or-map (line_means code) lines i x blank_line (omega (arith, w.end, w.lines, c.in_ok-at.ensures.provider))) ∙ ap (λ j. get_or (lines_mean code lines) (j + at.provider) blank_line) w.start in
-    let q = c.index-seats-at.result in
-    let seat = read_at (seat_means code) blank_seat seats at.seat.seat q (omega (arith, w.seat, w.seats)) c.index-seats-at.is in
+    let next = c.post_line.new.line in
+    let seat = read_at (seat_means code) blank_seat c.args.seats.now _ c.index-seats-at.result (seat_within w) c.index-seats-at.is in
     record {
       step =
-          call_made code row r seats lines (ans.post c.args.seat c.args.provider) (post_done at.seat.providers at.seat.seat at.provider R.state (seat_means code q) l (line_means code next) c.post_line.result _ seat was c.post_line.ensures.answer c.post_line.ensures.means is) (post_found R c.args.seat c.args.provider _ at c.in_ok-at.ensures.answer);
-      beyond = drop-set-lt (r.seats * size_of row) lines i next (omega (arith, w.end, c.in_ok-at.ensures.provider));
-      refusal = λ e. ap (set lines i) (c.post_line.ensures.refusal e) ∙ set-get_or lines i x;
+          call_made code _ _ _ _ _ (post_done _ _ _ _ _ _ _ c.post_line.result _ seat (line_read code _ w here x) c.post_line.ensures.answer c.post_line.ensures.means (line_written code _ w here next))
+          (post_found _ _ _ _ c.in_ok-at.at c.in_ok-at.ensures.answer);
+      beyond = line_beyond code _ w here next;
+      refusal = λ e. line_kept c.args.lines.now _ x next (c.post_line.ensures.refusal e);
     }

@@ -5,6 +5,5 @@ pub mod closed;
 #[cfg(test)]
 mod mixed;
 pub mod slot;
-pub mod slots;
 #[cfg(test)]
 mod tests;

@@ -12,7 +12,7 @@ use table::entry::Entry;
 use table::table::Table;
 use values::kind::Kind;
 use values::secret::Secret;
-use values::version::{Key, Version};
+use values::version::Key;
 
 // The key of one turn of the work at provider i, which is another work at each provider.
 fn key_of(i: usize, turn: u32) -> Key {
@@ -64,15 +64,6 @@ fn check_same<B: Bank<Secret>, S: Store<Secret>>(
     Ok(())
 }
 
-const BLANK: Entry<Secret> = Entry {
-    key: Key::STANDING,
-    version: Version::NONE,
-    value: Secret {
-        len: 0,
-        bytes: [0; 48],
-    },
-};
-
 // Numbers 2, 5 and 6 are logs, and the others are tables.
 fn check_direct<B: Bank<Secret>>(
     rt: &impl Abort,
@@ -89,7 +80,7 @@ fn check_direct<B: Bank<Secret>>(
             text,
         )
     } else {
-        check_same(rt, bank, i, &mut Table::new(&mut [BLANK; 3]), text)
+        check_same(rt, bank, i, &mut Table::new(&mut [Entry::blank(); 3]), text)
     }
 }
 
@@ -166,12 +157,12 @@ fn check_seven<
 fn tables_and_logs_by_number_and_directly(rt: HostRuntime) -> Result<(), Fail> {
     check_seven(
         &rt,
-        &mut Table::new(&mut [BLANK; 3]),
+        &mut Table::new(&mut [Entry::blank(); 3]),
         &mut Journal::new::<Secret>(&mut [0; 248]),
-        &mut Table::new(&mut [BLANK; 3]),
-        &mut Table::new(&mut [BLANK; 3]),
+        &mut Table::new(&mut [Entry::blank(); 3]),
+        &mut Table::new(&mut [Entry::blank(); 3]),
         &mut Journal::new::<Secret>(&mut [0; 248]),
         &mut Journal::new::<Secret>(&mut [0; 248]),
-        &mut Table::new(&mut [BLANK; 3]),
+        &mut Table::new(&mut [Entry::blank(); 3]),
     )
 }

@@ -7,6 +7,7 @@ use banks::whole;
 use std::process::Abort;
 use std::test::Fail;
 use stores::store::Store;
+use stores::stored::Stored;
 use values::kind::Kind;
 use values::refusal::Refusal;
 use values::secret::Secret;
@@ -21,11 +22,12 @@ fn empty() -> Slot<Secret> {
 }
 
 // Whether provider i holds this text under a key, with the key as its version.
-fn shows<B: Bank<Secret>>(bank: &B, i: usize, k: Key, text: &[u8]) -> bool {
-    match bank.get(i, k) {
-        Ok(Some(stored)) => stored.version == k && stored.value.as_bytes() == text,
-        _ => false,
-    }
+fn shows<B: Bank<Secret>>(bank: &B, i: usize, k: Key, text: Secret) -> bool {
+    bank.get(i, k)
+        == Ok(Some(Stored {
+            version: k,
+            value: text,
+        }))
 }
 
 // Seven providers, nested unevenly: numbers 2 and 6 can hold no key, and the others can hold one.
@@ -73,23 +75,24 @@ fn fill<B: Bank<Secret>>(rt: &impl Abort, bank: &mut B) -> Result<(), Fail> {
 }
 
 // Each provider holds what was put at its number, and nothing else.
-fn check_filled<B: Bank<Secret>>(rt: &impl Abort, bank: &B) {
+fn check_filled<B: Bank<Secret>>(rt: &impl Abort, bank: &B) -> Result<(), Fail> {
+    let text = Secret::new(b"text")?;
     for i in 1..8 {
         let open = i != 2 && i != 6;
         let room = if open { 1 } else { 0 };
         assert_eq!(rt; bank.capacity(i), Ok(room));
         assert_eq!(rt; bank.count(i), Ok(room));
         for k in 1..8 {
-            assert_eq!(rt; shows(bank, i, key(k as u32), b"text"), open && k == i);
+            assert_eq!(rt; shows(bank, i, key(k as u32), text), open && k == i);
         }
     }
     assert_eq!(rt; bank.size(), 7);
+    Ok(())
 }
 
 fn check_numbers<B: Bank<Secret>>(rt: &impl Abort, bank: &mut B) -> Result<(), Fail> {
     fill(rt, bank)?;
-    check_filled(rt, bank);
-    Ok(())
+    check_filled(rt, bank)
 }
 
 #[test]
@@ -122,8 +125,7 @@ fn check_other_numbers<B: Bank<Secret>>(rt: &impl Abort, bank: &mut B) -> Result
     for i in [0, 8, 9, usize::MAX] {
         check_refused(rt, bank, i)?;
     }
-    check_filled(rt, bank);
-    Ok(())
+    check_filled(rt, bank)
 }
 
 #[test]
@@ -148,8 +150,7 @@ fn check_refusals<B: Bank<Secret>>(rt: &impl Abort, bank: &mut B) -> Result<(), 
     let mut sheet = [key(70), key(71)];
     assert_eq!(rt; bank.list(4, &mut sheet), Ok(1));
     assert_eq!(rt; sheet, [key(4), key(71)]);
-    check_filled(rt, bank);
-    Ok(())
+    check_filled(rt, bank)
 }
 
 #[test]
@@ -201,7 +202,7 @@ fn clear<B: Bank<Secret>>(rt: &impl Abort, bank: &mut B) -> Result<(), Fail> {
     assert_eq!(rt; whole::total_count(bank), 3);
     whole::remove_everywhere(bank, key(1));
     assert_eq!(rt; whole::total_count(bank), 1);
-    assert!(rt; shows(bank, 2, key(2), b"text"));
+    assert!(rt; shows(bank, 2, key(2), text));
     Ok(())
 }
 

@@ -83,8 +83,11 @@ fn alternate(bytes: &mut [u8], secret: Secret, turns: u32) -> Option<u32> {
         if journal.used() < before {
             packings = packings.wrapping_add(1);
         }
-        let stored: Stored<Secret> = journal.get(version(turn, 1))?;
-        if stored.version != version(turn, 2) || stored.value != secret {
+        let expected = Stored {
+            version: version(turn, 2),
+            value: secret,
+        };
+        if journal.get(version(turn, 1)) != Some(expected) {
             return None;
         }
         Store::<Secret>::remove(&mut journal, version(turn, 1));
@@ -109,12 +112,15 @@ fn a_long_alternation_in_the_smallest_journal(rt: HostRuntime) -> Result<(), Fai
 fn keeps_a_key(bytes: &mut [u8], secret: Secret, turns: u32) -> Result<bool, Refusal> {
     let mut journal = Journal::new::<Secret>(bytes);
     journal.put(version(0, 0), version(9, 4), secret)?;
+    let kept = Stored {
+        version: version(9, 4),
+        value: secret,
+    };
     for turn in 0..turns {
         journal.put(version(turn, 1), version(turn, 1), secret)?;
         Store::<Secret>::remove(&mut journal, version(turn, 1));
-        match Store::<Secret>::get(&journal, version(0, 0)) {
-            Some(stored) if stored.version == version(9, 4) => {}
-            _ => return Ok(false),
+        if journal.get(version(0, 0)) != Some(kept) {
+            return Ok(false);
         }
     }
     Ok(Store::<Secret>::count(&journal) == 1)

@@ -6,8 +6,8 @@ mod parse;
 
 use journal::journal::Journal;
 use parse::{Request, parse};
-use std::io;
 use std::io::{BufRead, BufReader};
+use std::{fmt, io};
 use stores::copying::copy;
 use stores::store::Store;
 use table::entry::Entry;
@@ -23,6 +23,16 @@ const CAPACITY: usize = 32;
 // the bytes of a log that holds so many secrets: 62 for the longest record of each, and 62 to append one
 const LOG_BYTES: usize = 2046;
 
+// A refusal as it is told: by its number, and in words.
+#[derive(Drop)]
+struct Told(Refusal);
+
+impl fmt::Display for Told {
+    fn fmt<W: fmt::Write>(&self, f: &mut fmt::Formatter<W>) -> fmt::Result {
+        write!(f, "refused by {}: {}", self.0.number(), self.0)
+    }
+}
+
 // What becomes of a request.
 #[derive(Clone, Copy)]
 enum Outcome {
@@ -33,9 +43,10 @@ enum Outcome {
 // Stores the secret of a request under its key, with the key for its version.
 fn keep<S: Store<Secret>>(store: &mut S, request: Request) -> Result<Outcome, Refusal> {
     let secret = Secret::new(request.text.as_bytes())?;
-    let outcome = match store.get(request.key) {
-        Some(_) => Outcome::Replaced,
-        None => Outcome::Added,
+    let outcome = if store.get(request.key).is_some() {
+        Outcome::Replaced
+    } else {
+        Outcome::Added
     };
     store.put(request.key, request.key, secret)?;
     Ok(outcome)
@@ -52,6 +63,7 @@ fn load_line<S: Store<Secret>>(
         println!(rt; "line {number}: skipped: not of the form NUMBER SEAT TEXT")?;
         return Ok(false);
     };
+    // (A key is told by its parts, here and in `compare`: a version has no `Display`, and a pattern is as short.)
     let Key { number: n, seat } = request.key;
     match keep(store, request) {
         Ok(Outcome::Added) => Ok(true),
@@ -60,8 +72,7 @@ fn load_line<S: Store<Secret>>(
             Ok(true)
         }
         Err(refusal) => {
-            let by = refusal.number();
-            println!(rt; "line {number}: refused by {by}: {refusal}")?;
+            println!(rt; "line {number}: {}", Told(refusal))?;
             Ok(false)
         }
     }
@@ -117,10 +128,7 @@ fn copy_to<S: Store<Secret>, T: Store<Secret>>(
     let count = from.count();
     match copy(from, to, &mut keys) {
         Ok(copied) => println!(rt; "{copied} of {count} keys copied to {name}"),
-        Err(refusal) => {
-            let by = refusal.number();
-            println!(rt; "nothing copied to {name}: refused by {by}: {refusal}")
-        }
+        Err(refusal) => println!(rt; "nothing copied to {name}: {}", Told(refusal)),
     }
 }
 
@@ -158,10 +166,7 @@ fn refresh<S: Store<Secret>>(
         Ok(packings) => println!(rt;
             "all keys put into the log again: it was packed {packings} times to make room"
         )?,
-        Err(refusal) => {
-            let by = refusal.number();
-            println!(rt; "not all keys put into the log again: refused by {by}: {refusal}")?
-        }
+        Err(refusal) => { println!(rt; "not all keys put into the log again: {}", Told(refusal))? }
     }
     let before = log.used();
     log.pack();
@@ -180,10 +185,10 @@ fn main(rt: HostRuntime) -> io::Result<()> {
     let count = first.count();
     println!(rt; "{secrets} secrets read; {count} keys in the first table")?;
     let mut sheet = [Key::STANDING; CAPACITY];
-    if first.list(&mut sheet).is_err() || count > CAPACITY {
+    let Ok(listed) = first.list(&mut sheet) else {
         return println!(rt; "the keys do not fit a sheet of {CAPACITY} places");
-    }
-    let keys = &sheet[..count];
+    };
+    let keys = &sheet[..listed];
     copy_to(&rt, &first, &mut log, "the log")?;
     refresh(&rt, &first, &mut log, keys)?;
     copy_to(&rt, &log, &mut second, "the second table")?;

@@ -15,7 +15,7 @@ use runs::run::run;
 use std::alloc::{AllocError, Global};
 use std::io;
 use step::Step;
-use stories::{late_put, lost_provider, removed_key};
+use stories::{LATE_PUT, LOST_PROVIDER, REMOVED_KEY};
 use table::entry::Entry;
 use table::table::Table;
 use tell::tell;
@@ -31,7 +31,8 @@ fn calls_of(heap: Global, steps: &[Step]) -> Result<Vec<Exchange<Secret>>, Alloc
     Ok(calls)
 }
 
-// Makes the calls on a relay of two seats over three empty tables, and writes each answer beside its call.
+// Makes the calls on a relay of two seats over three empty tables, and writes each answer beside its call. (The script program
+// has one like it: each lends memory of its own to its own makes of provider.)
 fn play(exchanges: &mut [Exchange<Secret>]) {
     let mut first = [Entry::blank(); 4];
     let mut second = [Entry::blank(); 4];
@@ -67,11 +68,11 @@ fn tell_story(rt: &HostRuntime, title: &str, steps: &[Step]) -> io::Result<()> {
 }
 
 fn main(rt: HostRuntime) -> io::Result<()> {
-    tell_story(&rt, "1. A put that arrives late", &late_put())?;
+    tell_story(&rt, "1. A put that arrives late", LATE_PUT)?;
     tell_story(
         &rt,
         "2. A key removed between a list and its get",
-        &removed_key(),
+        REMOVED_KEY,
     )?;
-    tell_story(&rt, "3. A provider lost in the middle", &lost_provider())
+    tell_story(&rt, "3. A provider lost in the middle", LOST_PROVIDER)
 }

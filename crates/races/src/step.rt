@@ -4,7 +4,8 @@ use std::alloc::AllocError;
 use values::kind::Kind;
 use values::secret::Secret;
 
-// One step of a story. Each request to a provider goes with words that say what is asked.
+// One step of a story. Each request to a provider goes with words that say what is asked. (A step is told, counted and turned
+// into calls, so it is data: as a closure it could do only one of these.)
 #[derive(Clone, Copy)]
 pub enum Step {
     // words of the teller

@@ -35,7 +35,8 @@ impl fmt::Display for Step {
     }
 }
 
-// What became of a step. That a call was accepted, or that an operation goes on, is not said.
+// What became of a step. That a call was accepted, or that an operation goes on, is not said. (A version is told by its parts:
+// a pattern that takes it apart is as short as `Display`, and the script program writes it in another form.)
 #[derive(Drop)]
 struct Outcome(Result<Answer<Secret>, Refusal>);
 

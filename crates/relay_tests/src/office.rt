@@ -1,4 +1,4 @@
-// An office of two seats and three providers, and how its relay is called. (Blank records are written out here, as what is
+// An office of two seats and three providers, and how its relay is called. (An idle seat is written out here, as what is
 // expected; and test crates share nothing, so the calls of a round stand in relay_sizes too.)
 
 use banks::bank::Bank;
@@ -12,16 +12,9 @@ use relay::relay::Relay;
 use std::process::Abort;
 use std::test::Fail;
 use stores::stored::Stored;
-use table::entry::Entry;
 use values::hold::Hold;
 use values::refusal::Refusal;
 use values::version::{Key, Version};
-
-pub(crate) const BLANK: Entry<Hold> = Entry {
-    key: Key::STANDING,
-    version: Version::NONE,
-    value: Hold::Free,
-};
 
 pub(crate) const IDLE: Seat<Hold> = Seat {
     phase: Phase::Idle,

@@ -1,6 +1,6 @@
 // Every refusal of open, the relay of a refused open, and sheets that are too short.
 
-use crate::office::{BLANK, IDLE, hold};
+use crate::office::{IDLE, hold};
 use banks::bank::Bank;
 use banks::one::One;
 use banks::whole::total_count;
@@ -13,6 +13,7 @@ use relay::relay::Relay;
 use std::process::Abort;
 use std::test::Fail;
 use stores::store::Store;
+use table::entry::Entry;
 use table::table::Table;
 use values::hold::Hold;
 use values::kind::Kind;
@@ -87,7 +88,7 @@ fn check_table_refused<const K: usize>(
 
 #[test]
 fn open_is_refused_by_1_to_4(rt: HostRuntime) -> Result<(), Fail> {
-    let mut entries = [BLANK; 4];
+    let mut entries = [Entry::blank(); 4];
     let mut table = Table::new(&mut entries);
     let lines = [used_line(); 2];
     check_table_refused(&rt, &mut table, 0, lines, Refusal::UnsupportedSize)?;
@@ -96,7 +97,7 @@ fn open_is_refused_by_1_to_4(rt: HostRuntime) -> Result<(), Fail> {
     check_table_refused(&rt, &mut table, 2, [used_line(); 1], Refusal::SheetTooShort)?;
     table.put(KEY, KEY, hold(1))?;
     check_table_refused(&rt, &mut table, 2, lines, Refusal::ProviderNotEmpty)?;
-    let mut small = [BLANK; 3];
+    let mut small = [Entry::blank(); 3];
     let mut table = Table::new(&mut small);
     table.put(KEY, KEY, hold(1))?;
     check_table_refused(&rt, &mut table, 2, lines, Refusal::UnsuitableCapacity)
@@ -121,5 +122,5 @@ fn check_short_sheets<B: Bank<Hold> + Drop>(rt: &impl Abort, bank: B) -> Result<
 
 #[test]
 fn a_call_with_a_short_sheet_is_refused_by_2(rt: HostRuntime) -> Result<(), Fail> {
-    check_short_sheets(&rt, One(&mut Table::new(&mut [BLANK; 4])))
+    check_short_sheets(&rt, One(&mut Table::new(&mut [Entry::blank(); 4])))
 }

@@ -1,6 +1,6 @@
 // Every refusal of a call, and that a refused call changes nothing.
 
-use crate::office::{BLANK, IDLE, check_written, hold, prepare};
+use crate::office::{IDLE, check_written, hold, prepare};
 use banks::bank::Bank;
 use banks::one::One;
 use banks::two::Two;
@@ -11,6 +11,7 @@ use records::line::Line;
 use relay::opening::open;
 use std::process::Abort;
 use std::test::Fail;
+use table::entry::Entry;
 use table::table::Table;
 use values::hold::Hold;
 use values::kind::Kind;
@@ -53,10 +54,10 @@ fn check_refused_with(
     check_refused_at(
         rt,
         Two {
-            left: One(&mut Table::new(&mut [BLANK; 4])),
+            left: One(&mut Table::new(&mut [Entry::blank(); 4])),
             right: Two {
                 left: One(&mut Journal::new::<Hold>(&mut [0; 120])),
-                right: One(&mut Table::new(&mut [BLANK; 4])),
+                right: One(&mut Table::new(&mut [Entry::blank(); 4])),
             },
         },
         calls,

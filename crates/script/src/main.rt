@@ -87,7 +87,8 @@ fn play(exchanges: &mut [Exchange<Secret>]) -> Result<(), Refusal> {
     opened
 }
 
-// An answer, as a script's output tells it. (A version has no `Display`, since each program writes it in another form.)
+// An answer, as a script's output tells it. (A version has no `Display`: a pattern that takes it apart is as short, and the
+// stories of `races` write it in another form.)
 #[derive(Drop)]
 struct Said(Result<Answer<Secret>, Refusal>);
 

@@ -36,6 +36,7 @@ impl<B> Relay<B> {
         ensures step { (relay_means V.Kind.code B.Bank.row self.new seats.new lines.new, told V.Kind.code result) ≡ relay_step (relay_means V.Kind.code B.Bank.row self.old seats.old lines.old) (call_means V.Kind.code call) }
         ensures beyond { BeyondAll self.old.inner.seats (size_of (B.Bank.row self.old.bank)) seats.old lines.old seats.new lines.new }
         ensures refusal { is_err result ≡ true → (seats.new ≡ seats.old) × (lines.new ≡ lines.old) × (self.new.inner ≡ self.old.inner) }
+        ensures bank { is_err result ≡ true → self.new.bank ≡ self.old.bank }
     {
         match call {
             Call::BeginWrite(seat, value) => accepted(self.begin_write(seats, lines, seat, value)),

@@ -54,6 +54,7 @@ impl<B> Relay<B> {
         ensures step { (relay_means V.Kind.code B.Bank.row self.new seats.new lines.new, told V.Kind.code result) ≡ relay_step (relay_means V.Kind.code B.Bank.row self.old seats.old lines.old) (fetch_call seat provider) }
         ensures beyond { BeyondAll self.old.inner.seats (size_of (B.Bank.row self.old.bank)) seats.old lines.old seats.new lines.new }
         ensures refusal { is_err result ≡ true → (seats.new ≡ seats.old) × (lines.new ≡ lines.old) × (self.new.inner ≡ self.old.inner) }
+        ensures bank { self.new.bank ≡ self.old.bank }
     {
         let at = self.find::<V>(seats.len(), lines.len(), seat, provider)?;
         let own = &mut lines[at.seat.start..at.seat.start + at.seat.providers];

@@ -35,7 +35,8 @@ fn ask<V: Kind, B: Bank<V>>(
     request: Request<V>,
 ) -> Result<Result<Reply<V>, Refusal>, Refusal>
     requires { has i (B.Bank.row bank.old) ≡ true }
-    ensures { Asked V.Kind.code (request_means V.Kind.code request) (i - 1) (slice_index_or (B.Bank.row bank.old) (i - 1) absent) (B.Bank.row bank.old) result (B.Bank.row bank.new) }
+    ensures asked { Asked V.Kind.code (request_means V.Kind.code request) (i - 1) (slice_index_or (B.Bank.row bank.old) (i - 1) absent) (B.Bank.row bank.old) result (B.Bank.row bank.new) }
+    ensures bank { is_err result ≡ true → bank.new ≡ bank.old }
 {
     match request {
         Request::List => Ok(Ok(Reply::Keys(ask_keys::<V, B>(bank, i)?))),
@@ -51,7 +52,8 @@ fn ask<V: Kind, B: Bank<V>>(
 }
 
 impl<B> Relay<B> {
-    // A line's request is carried out at its provider, and the line has its answer. The seat may have stopped.
+    // A line's request is carried out at its provider, and the line has its answer. The seat may have stopped. (`bank` stands
+    // here, at `land_line` and at `call`: it is what each promises.)
     pub fn land<V: Kind>(
         &mut self,
         seats: &[Seat<V>],
@@ -64,6 +66,7 @@ impl<B> Relay<B> {
         ensures step { (relay_means V.Kind.code B.Bank.row self.new seats.now lines.new, acknowledged result) ≡ relay_step (relay_means V.Kind.code B.Bank.row self.old seats.now lines.old) (land_call seat provider) }
         ensures beyond { drop (self.old.inner.seats * size_of (B.Bank.row self.old.bank)) lines.new ≡ drop (self.old.inner.seats * size_of (B.Bank.row self.old.bank)) lines.old }
         ensures refusal { is_err result ≡ true → lines.new ≡ lines.old }
+        ensures bank { is_err result ≡ true → self.new.bank ≡ self.old.bank }
         ensures inner { self.new.inner ≡ self.old.inner }
     {
         let at = self.find::<V>(seats.len(), lines.len(), seat, provider)?;
@@ -77,6 +80,7 @@ impl<B> Relay<B> {
         requires { i < size_of (B.Bank.row self.old.bank) }
         ensures landed { Landed i (lost_flags self.old.inner) (B.Bank.row self.old.bank) (line_means V.Kind.code line.old) (acknowledged result) (B.Bank.row self.new.bank) (line_means V.Kind.code line.new) }
         ensures refusal { is_err result ≡ true → line.new ≡ line.old }
+        ensures bank { is_err result ≡ true → self.new.bank ≡ self.old.bank }
         ensures inner { self.new.inner ≡ self.old.inner }
     {
         if self.inner.is_lost(i) {

@@ -25,6 +25,7 @@ impl<B> Relay<B> {
         B: Bank<V>,
         ensures step { (relay_means V.Kind.code B.Bank.row self.new seats.now lines.now, acknowledged result) ≡ relay_step (relay_means V.Kind.code B.Bank.row self.old seats.now lines.now) (lose_call provider) }
         ensures refusal { is_err result ≡ true → self.new.inner ≡ self.old.inner }
+        ensures bank { self.new.bank ≡ self.old.bank }
     {
         let i = self.find_provider::<V>(seats.len(), lines.len(), provider)?;
         if self.inner.is_lost(i) {

@@ -28,7 +28,7 @@ fn make_calls<V: Kind, B: Bank<V>>(
     ensures answers { answers_mean V.Kind.code exchanges.new ≡ run_answers (relay_state V.Kind.code (B.Bank.row relay.old.bank) relay.old.inner seats.old lines.old) (calls_mean V.Kind.code exchanges.old) }
     ensures ended { relay_state V.Kind.code (B.Bank.row relay.new.bank) relay.new.inner seats.new lines.new ≡ run_end (relay_state V.Kind.code (B.Bank.row relay.old.bank) relay.old.inner seats.old lines.old) (calls_mean V.Kind.code exchanges.old) }
     ensures beyond { BeyondAll relay.old.inner.seats (size_of (B.Bank.row relay.old.bank)) seats.old lines.old seats.new lines.new }
-    ensures refusal { is_some relay.old.inner.refused ≡ true → (seats.new ≡ seats.old) × (lines.new ≡ lines.old) × (relay.new.inner ≡ relay.old.inner) }
+    ensures refusal { is_some relay.old.inner.refused ≡ true → (seats.new ≡ seats.old) × (lines.new ≡ lines.old) × (relay.new.inner ≡ relay.old.inner) × (relay.new.bank ≡ relay.old.bank) }
 {
     for exchange in exchanges.iter_mut() {
         let answer = relay.call(seats, lines, exchange.call);
@@ -51,7 +51,7 @@ pub fn run<V: Kind, B: Bank<V>>(
     ensures answers { answers_mean V.Kind.code exchanges.new ≡ run_answers (opened (numbered result.1) m (V.Kind.code V.Kind.nothing) (B.Bank.row bank) (seats_mean V.Kind.code seats.old) (lines_mean V.Kind.code lines.old)) (calls_mean V.Kind.code exchanges.old) }
     ensures ended { relay_state V.Kind.code (B.Bank.row result.0.bank) result.0.inner seats.new lines.new ≡ run_end (opened (numbered result.1) m (V.Kind.code V.Kind.nothing) (B.Bank.row bank) (seats_mean V.Kind.code seats.old) (lines_mean V.Kind.code lines.old)) (calls_mean V.Kind.code exchanges.old) }
     ensures beyond { BeyondAll m (size_of (B.Bank.row bank)) seats.old lines.old seats.new lines.new }
-    ensures refusal { is_err result.1 ≡ true → (seats.new ≡ seats.old) × (lines.new ≡ lines.old) }
+    ensures refusal { is_err result.1 ≡ true → (seats.new ≡ seats.old) × (lines.new ≡ lines.old) × (result.0.bank ≡ bank) }
     ensures lawful { is_ok result.1 ≡ true → Lawful m (length (B.Bank.row bank)) (calls_mean V.Kind.code exchanges.old) (answers_mean V.Kind.code exchanges.new) (relay_state V.Kind.code (B.Bank.row result.0.bank) result.0.inner seats.new lines.new).state }
 {
     let (mut relay, accepted) = open(bank, m, seats, lines);

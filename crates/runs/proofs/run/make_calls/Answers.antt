@@ -39,8 +39,9 @@ loop-exchange-preserved g c =
       λ some.
           let h = inv.6 some in
           let e : is_some was.inner.refused ≡ true = ap (λ (q : Inner). is_some q.refused) h.2 ∙ some in
-          let r = c.call-answer.ensures.refusal (refuses code R S was.inner.refused a means refl e step) in
-          (r.0 ∙ h.0, r.1 ∙ h.1, r.2 ∙ h.2),
+          let no = refuses code R S was.inner.refused a means refl e step in
+          let r = c.call-answer.ensures.refusal no in
+          (r.0 ∙ h.0, r.1 ∙ h.1, r.2 ∙ h.2, c.call-answer.ensures.bank no ∙ h.3),
     )
 
 pub returns-clause-answers : goal.returns-clause-answers

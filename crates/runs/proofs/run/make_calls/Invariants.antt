@@ -16,4 +16,4 @@ invariant-loop-exchange g l =
     × (l.relay.inner.seats ≡ l.initial.relay.inner.seats)
     × (length (g.B.Bank.row l.relay.bank) ≡ length (g.B.Bank.row l.initial.relay.bank))
     × BeyondAll l.initial.relay.inner.seats (size_of (g.B.Bank.row l.initial.relay.bank)) l.initial.seats l.initial.lines l.seats l.lines
-    × (is_some l.initial.relay.inner.refused ≡ true → (l.seats ≡ l.initial.seats) × (l.lines ≡ l.initial.lines) × (l.relay.inner ≡ l.initial.relay.inner))
+    × (is_some l.initial.relay.inner.refused ≡ true → (l.seats ≡ l.initial.seats) × (l.lines ≡ l.initial.lines) × (l.relay.inner ≡ l.initial.relay.inner) × (l.relay.bank ≡ l.initial.relay.bank))

@@ -30,10 +30,10 @@ returns g c =
     ap (λ b. relay_state code (g.B.Bank.row b) relay.inner c.open-relay.new.seats c.open-relay.new.lines) o.bank ∙ (o.state ∙ ap (λ x. opened x m nothing row seats lines) (sym o.answer)) in
     let answers = h.answers ∙ ap (λ R. run_answers R calls) start in
     let ended = h.ended ∙ ap (λ R. run_end R calls) start in
-    let refusal : is_err a ≡ true → (c.make_calls.new.seats ≡ c.args.seats.now) × (c.make_calls.new.lines ≡ c.args.lines.now) = λ e.
+    let refusal : is_err a ≡ true → (c.make_calls.new.seats ≡ c.args.seats.now) × (c.make_calls.new.lines ≡ c.args.lines.now) × (c.make_calls.new.relay.bank ≡ c.args.bank) = λ e.
     let before = o.refusal e in
     let after = h.refusal (keeps_refusal m nothing row seats lines a relay.inner.refused (ap (λ (R : RelayState). R.refusal) start) e) in
-    (after.0 ∙ before.0, after.1 ∙ before.1) in
+    (after.0 ∙ before.0, after.1 ∙ before.1, after.3 ∙ o.bank) in
     let checked : is_ok a ≡ true → open_check m row (length seats) (length lines) ≡ Ok tt = λ e.
     ap₂ (λ s l. open_check m row s l) (length-map c.args.seats.now (seat_means code)) (length-map c.args.lines.now (line_means code)) ∙ (sym o.answer ∙ was_accepted a e) in
     record {

@@ -15,3 +15,6 @@ returns-in-Stop-clause-refusal g c = λ e. (c.stop.ensures.refusal (c.accepted-i
 
 pub returns-in-Lose-clause-refusal : goal.returns-in-Lose-clause-refusal
 returns-in-Lose-clause-refusal g c = λ e. (refl, refl, c.lose.ensures.refusal (c.accepted-in-Lose.ensures.refusal e))
+
+pub returns-in-Land-clause-bank : goal.returns-in-Land-clause-bank
+returns-in-Land-clause-bank g c = λ e. c.land.ensures.bank (c.accepted-in-Land.ensures.refusal e)

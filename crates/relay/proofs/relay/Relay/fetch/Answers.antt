@@ -1,4 +1,4 @@
-use Rattle.std.proofs.Common.{◌+◌, ◌-◌, ◌≡◌, ap, arith}
+use Rattle.std.proofs.Common.{refl, ◌+◌, ◌-◌, ◌≡◌, ap, arith}
 use borrow.Author.Rules.{scaled_Fits, scaled_fits≤}
 use Rattle.records.specs.Means.{told}
 use Rattle.relay.specs.RelayState.{lost_flags}
@@ -36,4 +36,5 @@ returns g c =
           let h = c.fetch_line.ensures.refusal e in
           let same = unchanged _ _ counts w x next own (h.0, h.1) in
           (same.0, same.1, ap (λ n. record r { looks = n }) h.2);
+      bank = refl;
     }

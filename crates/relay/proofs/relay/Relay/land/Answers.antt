@@ -34,5 +34,6 @@ returns g c =
           (land_found _ _ _ _ c.in_ok-at.at c.in_ok-at.ensures.answer);
       beyond = line_beyond code _ w here next;
       refusal = λ e. line_kept lines i x next (c.land_line.ensures.refusal e);
+      bank = c.land_line.ensures.bank;
       inner = c.land_line.ensures.inner;
     }

@@ -1,4 +1,4 @@
-// The smallest and the largest relays: one and seven providers, one and sixteen seats.
+// The smallest and the largest relays: one and seven providers, one and sixteen seats; and one provider too many.
 
 use banks::bank::Bank;
 use banks::one::One;
@@ -208,5 +208,64 @@ fn a_write_goes_through_at_four_of_seven_tables_and_logs(rt: HostRuntime) -> Res
         &mut Table::new(&mut [Entry::blank(); 4]),
         &mut Table::new(&mut [Entry::blank(); 4]),
         &mut Journal::new::<Hold>(&mut [0; 120]),
+    )
+}
+
+fn check_eight<B: Bank<Hold> + Drop>(rt: &impl Abort, bank: B) {
+    let mut seats = [Seat::blank(); 1];
+    let mut lines = [Line::blank(); 8];
+    let (relay, opened) = open(bank, 1, &mut seats, &mut lines);
+    assert_eq!(rt; opened, Err(Refusal::UnsupportedSize));
+    assert_eq!(rt; relay.looks(), Err(Refusal::UnsupportedSize));
+    assert_eq!(rt; relay.shut().size(), 8);
+}
+
+fn check_four_and_four<S: Store<Hold> + Drop>(
+    rt: &impl Abort,
+    stores: (S, S, S, S),
+    more: (S, S, S, S),
+) {
+    let (one, two, three, four) = stores;
+    let (five, six, seven, eight) = more;
+    let left = Two {
+        left: Two {
+            left: One(one),
+            right: One(two),
+        },
+        right: Two {
+            left: One(three),
+            right: One(four),
+        },
+    };
+    let right = Two {
+        left: Two {
+            left: One(five),
+            right: One(six),
+        },
+        right: Two {
+            left: One(seven),
+            right: One(eight),
+        },
+    };
+    check_eight(rt, Two { left, right })
+}
+
+// Eight are one too many, before their capacities are looked at.
+#[test]
+fn eight_providers_are_refused_by_1(rt: HostRuntime) {
+    check_four_and_four(
+        &rt,
+        (
+            &mut Table::new(&mut [Entry::blank(); 0]),
+            &mut Table::new(&mut [Entry::blank(); 0]),
+            &mut Table::new(&mut [Entry::blank(); 0]),
+            &mut Table::new(&mut [Entry::blank(); 0]),
+        ),
+        (
+            &mut Table::new(&mut [Entry::blank(); 0]),
+            &mut Table::new(&mut [Entry::blank(); 0]),
+            &mut Table::new(&mut [Entry::blank(); 0]),
+            &mut Table::new(&mut [Entry::blank(); 0]),
+        ),
     )
 }

@@ -1,7 +1,7 @@
 -- What an appended record leaves, and how many keys a put and a remove leave.
 use Rattle.std.proofs.Common.{◌≡◌, ℕ, ◌+◌, ◌-◌, ◌<◌, ◌≤◌, true, false, cond, leb, List, [], ◌∷◌, ◌++◌, length, take, drop, replicate, is_some, sym, refl, ap, ◌∙◌, subst, arith}
 use Rattle.std.proofs.lemmas.Bool.{le-leb, lt-leb}
-use Rattle.stores.specs.Keyed.{find, put}
+use Rattle.stores.specs.Keyed.{element_of, put}
 use Rattle.stores.specs.Provider.{Cell, cell_key}
 use Rattle.journal.specs.declared.journal.Journal.{Journal}
 use Rattle.journal.specs.Record.{whole, put_record, remove_record}
@@ -91,7 +91,7 @@ module _ (j : Journal) (c : Cell) (r : List ℕ) (is : r ≡ put_record c) (back
   put_step : step r (replay (contents_of j).records) ≡ put cell_key c (replay (contents_of j).records)
   put_step = ap (λ x. step x (replay (contents_of j).records)) is ∙ step_put j.width (put_record c) c (replay (contents_of j).records) back
 
-  pub put_again : is_some (find cell_key c.key (replay (contents_of j).records)) ≡ true → Appends j r j.count
+  pub put_again : is_some (element_of cell_key c.key (replay (contents_of j).records)) ≡ true → Appends j r j.count
   put_again there =
       let m = replay (contents_of j).records in
       let n = j.counted in
@@ -99,16 +99,16 @@ module _ (j : Journal) (c : Cell) (r : List ℕ) (is : r ≡ put_record c) (back
       let s = some_long c.key m there in
       record { wholly = put_whole; counted = j.counted ∙ sym (ap length put_step ∙ length_put_old c m (ascends_replay [] (contents_of j).records refl) there); few = j.few; some = omega arith }
 
-  pub put_new : is_some (find cell_key c.key (replay (contents_of j).records)) ≡ false → j.count < j.room → Appends j r (j.count + 1)
+  pub put_new : is_some (element_of cell_key c.key (replay (contents_of j).records)) ≡ false → j.count < j.room → Appends j r (j.count + 1)
   put_new gone lt =
       let m = replay (contents_of j).records in
-      let n = length_put_new c m (none_is (find cell_key c.key m) gone) in
+      let n = length_put_new c m (none_is (element_of cell_key c.key m) gone) in
       let s = ap length put_step in
       let k = j.counted in
       record { wholly = put_whole; counted = omega arith; few = omega arith; some = omega arith }
 
 -- what a remove of a present key leaves
-module _ (j : Journal) (k : ℕ) (r : List ℕ) (is : r ≡ remove_record k) (back : ReadsRemove j.width (remove_record k) k) (there : is_some (find cell_key k (replay (contents_of j).records)) ≡ true) where
+module _ (j : Journal) (k : ℕ) (r : List ℕ) (is : r ≡ remove_record k) (back : ReadsRemove j.width (remove_record k) k) (there : is_some (element_of cell_key k (replay (contents_of j).records)) ≡ true) where
   pub removed : Appends j r (j.count - 1)
   removed =
       let m = replay (contents_of j).records in

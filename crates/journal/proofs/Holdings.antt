@@ -6,7 +6,7 @@ use Rattle.std.proofs.lemmas.Bool.{cond-true, cond-false, eq-eqb, le-leb}
 use Rattle.values.specs.Rank.{version_of}
 use Rattle.values.specs.Sheets.{write_sheet}
 use Rattle.values.specs.declared.version.Version.{Version}
-use Rattle.stores.specs.Keyed.{find}
+use Rattle.stores.specs.Keyed.{element_of}
 use Rattle.stores.specs.Provider.{Cell, Provider, cell_key, keys}
 use Rattle.stores.specs.Operations.{put_answer, put_after, remove_after, get_answer, list_sheet}
 use Rattle.journal.specs.declared.journal.Journal.{Journal}
@@ -45,7 +45,7 @@ module _ (wide : ℕ) (f : List ℕ → List ℕ) (j : Journal) where
       let m = replay (contents_of j).records in
       j.counted ∙ (sym (length-map m (normal_cell f)) ∙ sym (ap (λ (p : Provider). length p.cells) (provider_served wide f (contents_of j) e)))
 
-  pub got : (k : ℕ) (o : Option Cell) → serves wide (contents_of j) ≡ true → o ≡ find cell_key k (replay (contents_of j).records) → option_map (λ (c : Cell). c.pair) (option_map (normal_cell f) o) ≡ get_answer k (provider_of wide f (contents_of j))
+  pub got : (k : ℕ) (o : Option Cell) → serves wide (contents_of j) ≡ true → o ≡ element_of cell_key k (replay (contents_of j).records) → option_map (λ (c : Cell). c.pair) (option_map (normal_cell f) o) ≡ get_answer k (provider_of wide f (contents_of j))
   got k o e is =
       ap (λ x. option_map (λ (c : Cell). c.pair) (option_map (normal_cell f) x)) is ∙ (ap (option_map (λ (c : Cell). c.pair)) (sym (find_normal f k (replay (contents_of j).records))) ∙ sym (ap (get_answer k) (provider_served wide f (contents_of j) e)))
 

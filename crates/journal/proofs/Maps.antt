@@ -3,7 +3,7 @@ use Rattle.std.proofs.Common.{◌≡◌, ℕ, suc, ◌+◌, ◌<◌, ◌≤◌, 
 use Rattle.std.proofs.lemmas.Bool.{cases_Bool, both_ways, cond-true, cond-false, cond_both, and_parts, eqb-true, eq-eqb, ltb-true, ltb-false, lt-ltb}
 use Rattle.std.proofs.lemmas.Bool.Decides.{nat_tests}
 use Rattle.std.proofs.lemmas.Option.{none-some}
-use Rattle.stores.specs.Keyed.{headed, ascending, find, put, without}
+use Rattle.stores.specs.Keyed.{headed, ascending, element_of, put, without}
 use Rattle.stores.specs.Provider.{Cell, cell_key}
 use Rattle.stores.proofs.KeyedLists.{find_below, without_absent, length_put}
 
@@ -14,56 +14,56 @@ pub none_is : (o : Option Cell) → is_some o ≡ false → o ≡ None
 none_is None h = refl
 none_is (Some x) h = absurd (both_ways true h refl)
 
-find_hit : (k : ℕ) (c : Cell) (cs : List Cell) → c.key ≡ k → find cell_key k (c ∷ cs) ≡ Some c
-find_hit k c cs e = cond-true (eqb c.key k) (Some c) (find cell_key k cs) (eq-eqb c.key k e)
+find_hit : (k : ℕ) (c : Cell) (cs : List Cell) → c.key ≡ k → element_of cell_key k (c ∷ cs) ≡ Some c
+find_hit k c cs e = cond-true (eqb c.key k) (Some c) (element_of cell_key k cs) (eq-eqb c.key k e)
 
-find_past : (k : ℕ) (c : Cell) (cs : List Cell) → eqb c.key k ≡ false → find cell_key k (c ∷ cs) ≡ find cell_key k cs
-find_past k c cs e = cond-false (eqb c.key k) (Some c) (find cell_key k cs) e
+find_past : (k : ℕ) (c : Cell) (cs : List Cell) → eqb c.key k ≡ false → element_of cell_key k (c ∷ cs) ≡ element_of cell_key k cs
+find_past k c cs e = cond-false (eqb c.key k) (Some c) (element_of cell_key k cs) e
 
-pub find_put : (k : ℕ) (n : Cell) (m : List Cell) → find cell_key k (put cell_key n m) ≡ cond (eqb n.key k) (Some n) (find cell_key k m)
+pub find_put : (k : ℕ) (n : Cell) (m : List Cell) → element_of cell_key k (put cell_key n m) ≡ cond (eqb n.key k) (Some n) (element_of cell_key k m)
 find_put k n [] = refl
 find_put k n (c ∷ cs) =
-    cond_both (ltb c.key n.key) (c ∷ put cell_key n cs) (n ∷ cond (eqb c.key n.key) cs (c ∷ cs)) (λ m. find cell_key k m ≡ cond (eqb n.key k) (Some n) (find cell_key k (c ∷ cs)))
+    cond_both (ltb c.key n.key) (c ∷ put cell_key n cs) (n ∷ cond (eqb c.key n.key) cs (c ∷ cs)) (λ m. element_of cell_key k m ≡ cond (eqb n.key k) (Some n) (element_of cell_key k (c ∷ cs)))
     (λ p.
     ⊎_elim
     (λ q.
     let f : eqb n.key k ≡ false = grind (arith, nat_tests) in
     let e = eqb-true c.key k q in
-    find_hit k c (put cell_key n cs) e ∙ sym (cond-false (eqb n.key k) (Some n) (find cell_key k (c ∷ cs)) f ∙ find_hit k c cs e))
+    find_hit k c (put cell_key n cs) e ∙ sym (cond-false (eqb n.key k) (Some n) (element_of cell_key k (c ∷ cs)) f ∙ find_hit k c cs e))
     (λ q. rw q (find_put k n cs))
     (cases_Bool (eqb c.key k)))
     (λ p.
-    cond_both (eqb c.key n.key) cs (c ∷ cs) (λ m. find cell_key k (n ∷ m) ≡ cond (eqb n.key k) (Some n) (find cell_key k (c ∷ cs)))
+    cond_both (eqb c.key n.key) cs (c ∷ cs) (λ m. element_of cell_key k (n ∷ m) ≡ cond (eqb n.key k) (Some n) (element_of cell_key k (c ∷ cs)))
     (λ q. ⊎_elim (λ s. rw s refl) (λ s. let f : eqb c.key k ≡ false = grind (arith, nat_tests) in rw (s, f) refl) (cases_Bool (eqb n.key k)))
     (λ q. refl))
 
-pub find_without : (k j : ℕ) (m : List Cell) → find cell_key k (without cell_key j m) ≡ cond (eqb j k) None (find cell_key k m)
+pub find_without : (k j : ℕ) (m : List Cell) → element_of cell_key k (without cell_key j m) ≡ cond (eqb j k) None (element_of cell_key k m)
 find_without k j [] = cond_both (eqb j k) None None (λ o. None ≡ o) (λ _. refl) (λ _. refl)
 find_without k j (c ∷ cs) =
-    cond_both (eqb c.key j) (without cell_key j cs) (c ∷ without cell_key j cs) (λ m. find cell_key k m ≡ cond (eqb j k) None (find cell_key k (c ∷ cs)))
+    cond_both (eqb c.key j) (without cell_key j cs) (c ∷ without cell_key j cs) (λ m. element_of cell_key k m ≡ cond (eqb j k) None (element_of cell_key k (c ∷ cs)))
     (λ p. find_without k j cs ∙ ⊎_elim (λ s. rw s refl) (λ s. let f : eqb c.key k ≡ false = grind (arith, nat_tests) in rw (s, f) refl) (cases_Bool (eqb j k)))
     (λ p.
     ⊎_elim
     (λ s.
     let f : eqb j k ≡ false = grind (arith, nat_tests) in
     let e = eqb-true c.key k s in
-    find_hit k c (without cell_key j cs) e ∙ sym (cond-false (eqb j k) None (find cell_key k (c ∷ cs)) f ∙ find_hit k c cs e))
+    find_hit k c (without cell_key j cs) e ∙ sym (cond-false (eqb j k) None (element_of cell_key k (c ∷ cs)) f ∙ find_hit k c cs e))
     (λ s. rw s (find_without k j cs))
     (cases_Bool (eqb c.key k)))
 
 -- in order, a key before the first is absent
-before_first : (k : ℕ) (c : Cell) (cs : List Cell) → ascending (ranks (c ∷ cs)) ≡ true → k < c.key → find cell_key k (c ∷ cs) ≡ None
+before_first : (k : ℕ) (c : Cell) (cs : List Cell) → ascending (ranks (c ∷ cs)) ≡ true → k < c.key → element_of cell_key k (c ∷ cs) ≡ None
 before_first k c cs asc l = find_below cell_key k (c ∷ cs) (lt-ltb k c.key l) asc
 
-absent_after : (k : ℕ) (c : Cell) (cs : List Cell) → ascending (ranks (c ∷ cs)) ≡ true → c.key ≡ k → find cell_key k cs ≡ None
+absent_after : (k : ℕ) (c : Cell) (cs : List Cell) → ascending (ranks (c ∷ cs)) ≡ true → c.key ≡ k → element_of cell_key k cs ≡ None
 absent_after k c cs asc s =
     let h = and_parts (headed c.key (ranks cs)) (ascending (ranks cs)) asc in
-    sym (ap (λ k. find cell_key k cs) s) ∙ find_below cell_key c.key cs h.0 h.1
+    sym (ap (λ k. element_of cell_key k cs) s) ∙ find_below cell_key c.key cs h.0 h.1
 
 tail_ascends : (c : Cell) (cs : List Cell) → ascending (ranks (c ∷ cs)) ≡ true → ascending (ranks cs) ≡ true
 tail_ascends c cs h = (and_parts (headed c.key (ranks cs)) (ascending (ranks cs)) h).1
 
-pub same_maps : (m n : List Cell) → ascending (ranks m) ≡ true → ascending (ranks n) ≡ true → ((k : ℕ) → find cell_key k m ≡ find cell_key k n) → m ≡ n
+pub same_maps : (m n : List Cell) → ascending (ranks m) ≡ true → ascending (ranks n) ≡ true → ((k : ℕ) → element_of cell_key k m ≡ element_of cell_key k n) → m ≡ n
 same_maps [] [] p q h = refl
 same_maps [] (d ∷ ds) p q h = absurd (none-some d (sym (sym (find_hit d.key d ds refl) ∙ sym (h d.key))))
 same_maps (c ∷ cs) [] p q h = absurd (none-some c (sym (sym (find_hit c.key c cs refl) ∙ h c.key)))
@@ -90,7 +90,7 @@ same_maps (c ∷ cs) (d ∷ ds) p q h =
 
 -- how many keys a put and a remove leave
 
-pub length_put_new : (n : Cell) (m : List Cell) → find cell_key n.key m ≡ None → length (put cell_key n m) ≡ suc (length m)
+pub length_put_new : (n : Cell) (m : List Cell) → element_of cell_key n.key m ≡ None → length (put cell_key n m) ≡ suc (length m)
 length_put_new n [] h = refl
 length_put_new n (c ∷ cs) h =
     cond_both (ltb c.key n.key) (c ∷ put cell_key n cs) (n ∷ cond (eqb c.key n.key) cs (c ∷ cs)) (λ m. length m ≡ suc (length (c ∷ cs)))
@@ -100,16 +100,16 @@ length_put_new n (c ∷ cs) h =
     (λ s. absurd (none-some c (sym (sym (find_hit n.key c cs (eqb-true c.key n.key s)) ∙ h))))
     (λ s. refl))
 
-pub length_put_old : (n : Cell) (m : List Cell) → ascending (ranks m) ≡ true → is_some (find cell_key n.key m) ≡ true → length (put cell_key n m) ≡ length m
+pub length_put_old : (n : Cell) (m : List Cell) → ascending (ranks m) ≡ true → is_some (element_of cell_key n.key m) ≡ true → length (put cell_key n m) ≡ length m
 length_put_old n m asc h = length_put cell_key n m asc ∙ (ap (λ b. length m + cond b 0 1) h ∙ (let z : length m + 0 ≡ length m = omega arith in z))
 
-pub length_without : (k : ℕ) (m : List Cell) → ascending (ranks m) ≡ true → is_some (find cell_key k m) ≡ true → suc (length (without cell_key k m)) ≡ length m
+pub length_without : (k : ℕ) (m : List Cell) → ascending (ranks m) ≡ true → is_some (element_of cell_key k m) ≡ true → suc (length (without cell_key k m)) ≡ length m
 length_without k [] asc h = absurd (both_ways false refl h)
 length_without k (c ∷ cs) asc h =
     cond_both (eqb c.key k) (without cell_key k cs) (c ∷ without cell_key k cs) (λ m. suc (length m) ≡ length (c ∷ cs))
     (λ s. ap (λ m. suc (length m)) (without_absent cell_key k cs (absent_after k c cs asc (eqb-true c.key k s))))
     (λ s. ap suc (length_without k cs (tail_ascends c cs asc) (sym (ap is_some (find_past k c cs s)) ∙ h)))
 
-pub some_long : (k : ℕ) (m : List Cell) → is_some (find cell_key k m) ≡ true → 1 ≤ length m
+pub some_long : (k : ℕ) (m : List Cell) → is_some (element_of cell_key k m) ≡ true → 1 ≤ length m
 some_long k [] h = absurd (both_ways false refl h)
 some_long k (c ∷ cs) h = omega arith

@@ -4,7 +4,7 @@ use Rattle.std.specs.Option.{option_map, ok_or}
 use Rattle.std.proofs.lemmas.List.{length-map}
 use Rattle.std.proofs.lemmas.Bool.{cases_Bool, cond-true, cond-false, cond_both, eq-eqb}
 use Rattle.values.specs.Sheets.{read_answer}
-use Rattle.stores.specs.Keyed.{find, put, without}
+use Rattle.stores.specs.Keyed.{element_of, put, without}
 use Rattle.stores.specs.Provider.{Cell, Provider, cell_key}
 use Rattle.stores.specs.Operations.{room_for, put_answer, put_after, remove_after}
 use Rattle.stores.proofs.KeyedLists.{without_absent, map_keys, find_map, put_map, without_map}
@@ -57,9 +57,9 @@ replay_remove : (w k : ℕ) (s : Contents) → ReadsRemove w (remove_record k) k
 replay_remove w k s b =
     let m = replay s.records in
     ⊎_elim
-    (λ t. ap replay (cond-true (is_some (find cell_key k m)) (appended s.size (remove_record k) s.records) s.records t) ∙ (replay_appended s.size (remove_record k) s.records ∙ step_remove w (remove_record k) k m b))
-    (λ t. ap replay (cond-false (is_some (find cell_key k m)) (appended s.size (remove_record k) s.records) s.records t) ∙ sym (without_absent cell_key k m (none_is (find cell_key k m) t)))
-    (cases_Bool (is_some (find cell_key k (replay s.records))))
+    (λ t. ap replay (cond-true (is_some (element_of cell_key k m)) (appended s.size (remove_record k) s.records) s.records t) ∙ (replay_appended s.size (remove_record k) s.records ∙ step_remove w (remove_record k) k m b))
+    (λ t. ap replay (cond-false (is_some (element_of cell_key k m)) (appended s.size (remove_record k) s.records) s.records t) ∙ sym (without_absent cell_key k m (none_is (element_of cell_key k m) t)))
+    (cases_Bool (is_some (element_of cell_key k (replay s.records))))
 
 -- a map whose values are in their normal form
 
@@ -67,7 +67,7 @@ module _ (f : List ℕ → List ℕ) where
   pub ranks_normal : (m : List Cell) → ranks (map (normal_cell f) m) ≡ ranks m
   ranks_normal m = map_keys cell_key cell_key (normal_cell f) (λ _. refl) m
 
-  pub find_normal : (k : ℕ) (m : List Cell) → find cell_key k (map (normal_cell f) m) ≡ option_map (normal_cell f) (find cell_key k m)
+  pub find_normal : (k : ℕ) (m : List Cell) → element_of cell_key k (map (normal_cell f) m) ≡ option_map (normal_cell f) (element_of cell_key k m)
   find_normal k m = find_map cell_key cell_key (normal_cell f) (λ _. refl) k m
 
   put_normal : (n : Cell) (m : List Cell) → map (normal_cell f) (put cell_key n m) ≡ put cell_key (normal_cell f n) (map (normal_cell f) m)
@@ -93,7 +93,7 @@ module _ (wide : ℕ) (f : List ℕ → List ℕ) (s : Contents) where
   room_normal : (k : ℕ) → room_for k (with_cells s.room (map (normal_cell f) (replay s.records))) ≡ room_for k (raw s)
   room_normal k =
       let m = replay s.records in
-      ap (λ b. b || ltb (length (map (normal_cell f) m)) s.room) (ap is_some (find_normal f k m) ∙ some_mapped (normal_cell f) (find cell_key k m)) ∙ ap (λ n. is_some (find cell_key k m) || ltb n s.room) (length-map m (normal_cell f))
+      ap (λ b. b || ltb (length (map (normal_cell f) m)) s.room) (ap is_some (find_normal f k m) ∙ some_mapped (normal_cell f) (element_of cell_key k m)) ∙ ap (λ n. is_some (element_of cell_key k m) || ltb n s.room) (length-map m (normal_cell f))
 
   pub answer_put : (c : Cell) → serves wide s ≡ true → put_answer c (provider_of wide f s) ≡ put_answer c (raw s)
   answer_put c t = ap (put_answer c) (provider_served t) ∙ ap (λ b. cond b (Ok tt) (Err 15)) (room_normal c.key)

@@ -2,7 +2,7 @@
 use Rattle.std.proofs.Common.{◌≡◌, ℕ, suc, ◌+◌, ◌*◌, ◌≤◌, Bool, true, false, cond, ◌&&◌, not, eqb, List, [], ◌∷◌, ◌++◌, length, Some, None, Option, sym, refl, ap, ◌∙◌, subst, ⊎_elim, suc-mul, arith}
 use Rattle.std.proofs.lemmas.List.{length-append}
 use Rattle.std.proofs.lemmas.Bool.{cases_Bool, or_right, both_ways, cond-true, cond-false, cond_both, and_parts, and_from, eqb-true, eq-eqb}
-use Rattle.stores.specs.Keyed.{find, put, without}
+use Rattle.stores.specs.Keyed.{element_of, put, without}
 use Rattle.stores.specs.Provider.{Cell, cell_key}
 use Rattle.journal.specs.Record.{bit_map, record_key, record_cell, is_put, whole}
 use Rattle.journal.specs.Log.{joined, sound, step, replay_on, replay, mentions, live}
@@ -11,18 +11,18 @@ use Rattle.journal.specs.Walk.{seen, look_on, is_live}
 use Rattle.journal.proofs.Sizes.{size_le, whole_size}
 use Rattle.journal.proofs.Maps.{find_put, find_without, same_maps, length_put_new}
 
-find_step : (k : ℕ) (r : List ℕ) (m : List Cell) → find cell_key k (step r m) ≡ cond (eqb (record_key r) k) (seen r) (find cell_key k m)
+find_step : (k : ℕ) (r : List ℕ) (m : List Cell) → element_of cell_key k (step r m) ≡ cond (eqb (record_key r) k) (seen r) (element_of cell_key k m)
 find_step k r m =
     ⊎_elim
     (λ p. rw p (find_put k (record_cell r) m))
     (λ p. rw p (find_without k (record_key r) m))
     (cases_Bool (is_put r))
 
-find_replay_on : (k : ℕ) (m : List Cell) (rs : List (List ℕ)) → find cell_key k (replay_on m rs) ≡ look_on (find cell_key k m) k rs
+find_replay_on : (k : ℕ) (m : List Cell) (rs : List (List ℕ)) → element_of cell_key k (replay_on m rs) ≡ look_on (element_of cell_key k m) k rs
 find_replay_on k m [] = refl
 find_replay_on k m (r ∷ rs) = find_replay_on k (step r m) rs ∙ ap (λ o. look_on o k rs) (find_step k r m)
 
-pub find_replay : (k : ℕ) (rs : List (List ℕ)) → find cell_key k (replay rs) ≡ look_on None k rs
+pub find_replay : (k : ℕ) (rs : List (List ℕ)) → element_of cell_key k (replay rs) ≡ look_on None k rs
 find_replay k rs = find_replay_on k [] rs
 
 pub replay_push : (m : List Cell) (rs : List (List ℕ)) (r : List ℕ) → replay_on m (rs ++ r ∷ []) ≡ step r (replay_on m rs)
@@ -112,10 +112,10 @@ pub replay_live : (rs : List (List ℕ)) → replay (live rs) ≡ replay rs
 replay_live rs = same_maps (replay (live rs)) (replay rs) (ascends_replay [] (live rs) refl) (ascends_replay [] rs refl) (λ k. find_replay k (live rs) ∙ (look_live k rs ∙ sym (find_replay k rs)))
 
 -- each live record has a key of its own
-count_on : (m : List Cell) (rs : List (List ℕ)) → ((k : ℕ) → mentions k rs ≡ true → find cell_key k m ≡ None) → length (replay_on m (live rs)) ≡ length m + length (live rs)
+count_on : (m : List Cell) (rs : List (List ℕ)) → ((k : ℕ) → mentions k rs ≡ true → element_of cell_key k m ≡ None) → length (replay_on m (live rs)) ≡ length m + length (live rs)
 count_on m [] h = omega arith
 count_on m (r ∷ rs) h =
-    let h' : (k : ℕ) → mentions k rs ≡ true → find cell_key k m ≡ None = λ k t. h k (or_right (eqb (record_key r) k) (mentions k rs) t) in
+    let h' : (k : ℕ) → mentions k rs ≡ true → element_of cell_key k m ≡ None = λ k t. h k (or_right (eqb (record_key r) k) (mentions k rs) t) in
     let i = count_on m rs h' in
     cond_both (is_put r) (cond (mentions (record_key r) rs) (live rs) (r ∷ live rs)) (live rs) (λ xs. length (replay_on m xs) ≡ length m + length xs)
     (λ p.

@@ -1,5 +1,5 @@
 use Rattle.std.specs.Prelude.{ℕ, ◌+◌, ◌-◌, ◌*◌, ◌/◌, ◌≤◌, min, Bool, cond, List, [], length, take, is_some, ◌==◌}
-use Rattle.stores.specs.Keyed.{find}
+use Rattle.stores.specs.Keyed.{element_of}
 use Rattle.stores.specs.Provider.{Cell, Provider, cell_key}
 use Rattle.stores.specs.Operations.{room_for}
 use Rattle.journal.specs.Record.{put_record, remove_record}
@@ -44,7 +44,7 @@ abbrev pub put_log : Cell → Contents → List (List ℕ)
 put_log c s = cond (room_for c.key (raw s)) (appended s.size (put_record c) s.records) s.records
 
 abbrev pub remove_log : ℕ → Contents → List (List ℕ)
-remove_log k s = cond (is_some (find cell_key k (replay s.records))) (appended s.size (remove_record k) s.records) s.records
+remove_log k s = cond (is_some (element_of cell_key k (replay s.records))) (appended s.size (remove_record k) s.records) s.records
 
 -- A journal serves the values of one width. It has no room for others, and an operation on others changes nothing.
 abbrev pub serves : ℕ → Contents → Bool

@@ -2,7 +2,7 @@
 ghost use Rattle.std.specs.Prelude.{◌≡◌, ◌≤◌, true, length, is_some};
 ghost use Rattle.values.specs.Rank.{rank};
 ghost use Rattle.values.specs.Refusals.{outcome};
-ghost use Rattle.stores.specs.Keyed.{find};
+ghost use Rattle.stores.specs.Keyed.{element_of};
 ghost use Rattle.stores.specs.Provider.{cell, cell_key};
 ghost use Rattle.stores.specs.Operations.{put_answer};
 ghost use Rattle.journal.specs.Record.{whole};
@@ -35,7 +35,7 @@ impl<'a> Journal<'a> {
 
     // Whether the map has the key.
     fn is_present(&self, key: Key) -> bool
-        ensures { result ≡ is_some (find cell_key (rank key) (replay (contents_of self.now).records)) }
+        ensures { result ≡ is_some (element_of cell_key (rank key) (replay (contents_of self.now).records)) }
     {
         find(self.records(), key).is_some()
     }

@@ -2,7 +2,7 @@
 ghost use Rattle.std.specs.Prelude.{◌≡◌, length, IfSome};
 ghost use Rattle.std.specs.Option.{option_map};
 ghost use Rattle.values.specs.Rank.{rank};
-ghost use Rattle.stores.specs.Keyed.{find as found_under};
+ghost use Rattle.stores.specs.Keyed.{element_of};
 ghost use Rattle.stores.specs.Provider.{cell_key};
 ghost use Rattle.journal.specs.Log.{log, mentions, replay};
 ghost use Rattle.journal.specs.Record.{record_cell, record_value};
@@ -14,7 +14,7 @@ use values::version::Key;
 
 // The last record with the key, if it is a put.
 pub(crate) fn find<'a>(records: Records<'a>, key: Key) -> Option<Record<'a>>
-    ensures seen { option_map (λ r. record_cell r.bytes.now) result ≡ found_under cell_key (rank key) (replay (log records.entry.width records.entry.bytes.now)) }
+    ensures seen { option_map (λ r. record_cell r.bytes.now) result ≡ element_of cell_key (rank key) (replay (log records.entry.width records.entry.bytes.now)) }
     ensures wide { IfSome result (λ r. length (record_value r.bytes.now) ≡ records.entry.width) }
 {
     let mut found = None;

@@ -3,7 +3,7 @@ use Rattle.std.proofs.Common.{◌≡◌, ℕ, suc, ◌<◌, ◌≤◌, max, ◌|
 use Rattle.std.specs.List.{AllByRecursion}
 use Rattle.std.proofs.ByRecursion.{All-weaker}
 use Rattle.std.proofs.lemmas.Bool.{cond_both, eqb-true, eqb-false, ltb-true, ltb-false, or_cases, or_parts}
-use Rattle.stores.specs.Keyed.{find, put, without}
+use Rattle.stores.specs.Keyed.{element_of, put, without}
 use Rattle.stores.specs.Provider.{Cell, cell_key}
 use Rattle.protocol.specs.Law.{EachTwo}
 use Rattle.protocol.specs.Moves.{largest_key, keys_but}
@@ -26,7 +26,7 @@ abbrev pub Got : (Cell → Type 0) → ℕ → Option Cell → Type 0
 Got P k None = Unit {0}
 Got P k (Some c) = P c × (c.key ≡ k)
 
-pub all_get : (P : Cell → Type 0) (k : ℕ) (m : List Cell) → AllByRecursion P m → Got P k (find cell_key k m)
+pub all_get : (P : Cell → Type 0) (k : ℕ) (m : List Cell) → AllByRecursion P m → Got P k (element_of cell_key k m)
 all_get P k [] h = tt
 all_get P k (c ∷ m) h = cond_both (eqb c.key k) _ _ (Got P k) (λ t. (h.0, eqb-true c.key k t)) (λ _. all_get P k m h.1)
 

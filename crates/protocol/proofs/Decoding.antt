@@ -2,7 +2,7 @@
 use Rattle.std.proofs.Common.{◌≡◌, ℕ, suc, ◌≤◌, Bool, true, false, cond, ◌||◌, eqb, ltb, leb, ◌≢◌, List, [], ◌∷◌, map, length, get_or, drop, is_some, Some, None, Option, sym, refl, ap, ◌∙◌, arith}
 use Rattle.std.specs.Option.{option_map}
 use Rattle.std.proofs.lemmas.Bool.{cond_both, cond-true, lt-ltb, eqb-true, true≢false}
-use Rattle.stores.specs.Keyed.{find, put}
+use Rattle.stores.specs.Keyed.{element_of, put}
 use Rattle.stores.specs.Operations.{room_for}
 use Rattle.stores.specs.Provider.{Pair, Cell, Provider, cell_key}
 use Rattle.protocol.specs.Lines.{Progress}
@@ -119,18 +119,18 @@ gather_asks b p f = ap (λ t. ask_gather (cond t (pair_found p.found) (gather_at
 abbrev pub Roomy : Request → Provider → Type 0
 Roomy q d = length (carry q d.cells) ≤ d.capacity
 
-grown : (c : Cell) (m : List Cell) → is_some (find cell_key c.key m) ≡ false → length (put cell_key c m) ≡ suc (length m)
+grown : (c : Cell) (m : List Cell) → is_some (element_of cell_key c.key m) ≡ false → length (put cell_key c m) ≡ suc (length m)
 grown c [] e = refl
 grown c (x ∷ m) e = go (eqb x.key c.key) refl e (grown c m)
   where
-    go : (b : Bool) → eqb x.key c.key ≡ b → is_some (cond b (Some x) (find cell_key c.key m)) ≡ false → (is_some (find cell_key c.key m) ≡ false → length (put cell_key c m) ≡ suc (length m)) → length (put cell_key c (x ∷ m)) ≡ suc (suc (length m))
+    go : (b : Bool) → eqb x.key c.key ≡ b → is_some (cond b (Some x) (element_of cell_key c.key m)) ≡ false → (is_some (element_of cell_key c.key m) ≡ false → length (put cell_key c m) ≡ suc (length m)) → length (put cell_key c (x ∷ m)) ≡ suc (suc (length m))
     go true t e ih = absurd (true≢false e)
     go false f e ih = cond_both (ltb x.key c.key) _ _ (λ z. length z ≡ suc (suc (length m))) (λ _. ap suc (ih e)) (λ _. ap (λ b. suc (length (cond b m (x ∷ m)))) f)
 
 pub room : (c : Cell) (d : Provider) → Roomy (put_cell c) d → room_for c.key d ≡ true
-room c d l = go (is_some (find cell_key c.key d.cells)) refl
+room c d l = go (is_some (element_of cell_key c.key d.cells)) refl
   where
-    go : (b : Bool) → is_some (find cell_key c.key d.cells) ≡ b → (b || ltb (length d.cells) d.capacity) ≡ true
+    go : (b : Bool) → is_some (element_of cell_key c.key d.cells) ≡ b → (b || ltb (length d.cells) d.capacity) ≡ true
     go true e = refl
     go false e = lt-ltb (length d.cells) d.capacity (omega (arith, grown c d.cells e))
 
@@ -224,5 +224,5 @@ gather_moves b p d = go p.done p.stage
     go false at.PutStanding = listed at.PutStanding
     go false at.PutOwn = listed at.PutOwn
     go false at.RemoveLargest = listed at.RemoveLargest
-    go false at.GetLargest = largest (find cell_key p.largest m)
-    go false at.GetStanding = standing (find cell_key 0 m)
+    go false at.GetLargest = largest (element_of cell_key p.largest m)
+    go false at.GetStanding = standing (element_of cell_key 0 m)

@@ -1,7 +1,7 @@
 -- The protocol as the proof sees it: a seat's progress at each provider, and what is on the way.
 -- An answer moves a line as soon as it is given, and not only when it is fetched.
 use Rattle.std.proofs.Common.{ℕ, Bool, true, false, cond, eqb, ltb, leb, List, [], ◌∷◌, ◌++◌, map, Some, None, Option}
-use Rattle.stores.specs.Keyed.{find, put, without}
+use Rattle.stores.specs.Keyed.{element_of, put, without}
 use Rattle.stores.specs.Provider.{Cell, cell_key}
 use Rattle.protocol.specs.History.{update}
 use Rattle.protocol.specs.Moves.{largest_key, older_keys, mark_after}
@@ -117,8 +117,8 @@ got_standing k (Some c) = cond (leb k c.pair.version) (found c.pair.version c.pa
 
 abbrev pub next_gather : List Cell → GatherProgress → GatherProgress
 next_gather m (to_list_again k) = listed_gather (top m) k
-next_gather m (to_get_largest b k) = got_largest k (find cell_key b m)
-next_gather m (to_get_standing k) = got_standing k (find cell_key 0 m)
+next_gather m (to_get_largest b k) = got_largest k (element_of cell_key b m)
+next_gather m (to_get_standing k) = got_standing k (element_of cell_key 0 m)
 next_gather m found_none = found_none
 next_gather m (found v x) = found v x
 

@@ -6,7 +6,7 @@ use Rattle.std.proofs.Common.{◌≡◌, ℕ, ◌<◌, ◌≤◌, true, false, e
 use Rattle.std.specs.List.{AllByRecursion}
 use Rattle.std.proofs.ByRecursion.{All-weaker}
 use Rattle.std.proofs.lemmas.Bool.{cond_both, eqb-true, eqb-false, ltb-true, ltb-false, leb-true, eq-eqb, ne_eqb, cond-true, cond-false}
-use Rattle.stores.specs.Keyed.{find, put, without}
+use Rattle.stores.specs.Keyed.{element_of, put, without}
 use Rattle.stores.specs.Provider.{Cell, cell_key}
 use Rattle.protocol.specs.Law.{EachTwo}
 use Rattle.protocol.specs.Requests.{Request, list_keys, get_key, put_cell, remove_key}
@@ -161,8 +161,8 @@ module _ (g : ℕ → Option Code) (s : ℕ) where
     gather_land f (to_list_again k) l h =
         cond_both (eqb (top m) 0) _ _ (GatherOk g f) (λ t. omega (arith, eqb-true (top m) 0 t))
         (λ n. (eqb-false (top m) 0 n, l, cond_both (eqb k 0) _ _ (λ z. f ≤ z) (λ _. l) (λ d. h (eqb-false k 0 d))))
-    gather_land f (to_get_largest b k) l h = largest_ok f b k (find cell_key b m) h.0 h.1 h.2 (all_get Fine b m ok.paired)
-    gather_land f (to_get_standing k) l h = standing_ok f k (find cell_key 0 m) h (all_get Fine 0 m ok.paired)
+    gather_land f (to_get_largest b k) l h = largest_ok f b k (element_of cell_key b m) h.0 h.1 h.2 (all_get Fine b m ok.paired)
+    gather_land f (to_get_standing k) l h = standing_ok f k (element_of cell_key 0 m) h (all_get Fine 0 m ok.paired)
     gather_land f found_none l h = h
     gather_land f (found v x) l h = h
 

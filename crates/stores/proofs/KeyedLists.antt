@@ -2,7 +2,7 @@
 use Rattle.std.proofs.Common.{◌≡◌, ℕ, zero, suc, ◌+◌, ◌<◌, ◌≤◌, Bool, true, false, cond, eqb, ltb, List, [], ◌∷◌, map, length, get_or, is_some, Some, None, Option, sym, refl, ap, ◌∙◌, ⊎_elim, arith}
 use Rattle.std.specs.Option.{option_map}
 use Rattle.std.proofs.lemmas.Bool.{cases_Bool, and_parts, and_from, cond-true, cond-false, ltb-true, ltb-false, eqb-true, eqb-false, lt-ltb, ne_eqb, eq-eqb}
-use Rattle.stores.specs.Keyed.{headed, ascending, find, put, without}
+use Rattle.stores.specs.Keyed.{headed, ascending, element_of, put, without}
 
 -- a key below the first of an ascending list is below every key of it
 pub headed_before : (j k : ℕ) (ks : List ℕ) → j ≤ k → headed k ks ≡ true → headed j ks ≡ true
@@ -11,27 +11,27 @@ headed_before j k (x ∷ xs) le h = lt-ltb j x (let l = ltb-true k x h in omega 
 
 module _ {A : Type 0} (key : A → ℕ) where
   -- a key that is below the first is absent
-  pub find_below : (k : ℕ) (xs : List A) → headed k (map key xs) ≡ true → ascending (map key xs) ≡ true → find key k xs ≡ None
+  pub find_below : (k : ℕ) (xs : List A) → headed k (map key xs) ≡ true → ascending (map key xs) ≡ true → element_of key k xs ≡ None
   find_below k [] h asc = refl
   find_below k (x ∷ xs) h asc =
       let l = ltb-true k (key x) h in
       let a = and_parts (headed (key x) (map key xs)) (ascending (map key xs)) asc in
-      cond-false (eqb (key x) k) (Some x) (find key k xs) (ne_eqb (key x) k (λ e. omega arith))
+      cond-false (eqb (key x) k) (Some x) (element_of key k xs) (ne_eqb (key x) k (λ e. omega arith))
       ∙ find_below k xs (headed_before k (key x) (map key xs) (omega arith) a.0) a.1
 
   -- what an ascending list has at a place, it has under that key
-  pub find_at : (xs : List A) (i : ℕ) (d : A) → i < length xs → ascending (map key xs) ≡ true → find key (key (get_or xs i d)) xs ≡ Some (get_or xs i d)
+  pub find_at : (xs : List A) (i : ℕ) (d : A) → i < length xs → ascending (map key xs) ≡ true → element_of key (key (get_or xs i d)) xs ≡ Some (get_or xs i d)
   find_at [] i d lt asc = absurd (omega arith)
-  find_at (x ∷ xs) zero d lt asc = cond-true (eqb (key x) (key x)) (Some x) (find key (key x) xs) (eq-eqb (key x) (key x) refl)
+  find_at (x ∷ xs) zero d lt asc = cond-true (eqb (key x) (key x)) (Some x) (element_of key (key x) xs) (eq-eqb (key x) (key x) refl)
   find_at (x ∷ xs) (suc i) d lt asc =
       let a = and_parts (headed (key x) (map key xs)) (ascending (map key xs)) asc in
       let ih = find_at xs i d (omega arith) a.1 in
       ⊎_elim
       (λ p. let e = eqb-true (key x) (key (get_or xs i d)) p in
       let n = find_below (key x) xs a.0 a.1 in
-      let z : ◌≡◌ {A = Option A} None (Some (get_or xs i d)) = sym n ∙ (ap (λ k. find key k xs) e ∙ ih) in
+      let z : ◌≡◌ {A = Option A} None (Some (get_or xs i d)) = sym n ∙ (ap (λ k. element_of key k xs) e ∙ ih) in
       absurd (let o : ◌≡◌ {A = ℕ} 0 1 = cc in omega arith))
-      (λ p. cond-false (eqb (key x) (key (get_or xs i d))) (Some x) (find key (key (get_or xs i d)) xs) p ∙ ih)
+      (λ p. cond-false (eqb (key x) (key (get_or xs i d))) (Some x) (element_of key (key (get_or xs i d)) xs) p ∙ ih)
       (cases_Bool (eqb (key x) (key (get_or xs i d))))
 
   headed_put : (j : ℕ) (n : A) (xs : List A) → headed j (map key xs) ≡ true → j < key n → headed j (map key (put key n xs)) ≡ true
@@ -79,18 +79,18 @@ module _ {A : Type 0} (key : A → ℕ) where
       (cases_Bool (eqb (key x) k))
 
   -- without a key that is absent
-  pub without_absent : (k : ℕ) (xs : List A) → find key k xs ≡ None → without key k xs ≡ xs
+  pub without_absent : (k : ℕ) (xs : List A) → element_of key k xs ≡ None → without key k xs ≡ xs
   without_absent k [] none = refl
   without_absent k (x ∷ xs) none =
       ⊎_elim
-      (λ p. let z : ◌≡◌ {A = Option A} (Some x) None = sym (cond-true (eqb (key x) k) (Some x) (find key k xs) p) ∙ none in
+      (λ p. let z : ◌≡◌ {A = Option A} (Some x) None = sym (cond-true (eqb (key x) k) (Some x) (element_of key k xs) p) ∙ none in
       absurd (let o : ◌≡◌ {A = ℕ} 0 1 = cc in omega arith))
-      (λ p. let n = sym (cond-false (eqb (key x) k) (Some x) (find key k xs) p) ∙ none in
+      (λ p. let n = sym (cond-false (eqb (key x) k) (Some x) (element_of key k xs) p) ∙ none in
       cond-false (eqb (key x) k) (without key k xs) (x ∷ without key k xs) p ∙ ap (λ ys. x ∷ ys) (without_absent k xs n))
       (cases_Bool (eqb (key x) k))
 
 module _ {A : Type 0} (key : A → ℕ) where
-  pub length_put : (n : A) (xs : List A) → ascending (map key xs) ≡ true → length (put key n xs) ≡ length xs + cond (is_some (find key (key n) xs)) 0 1
+  pub length_put : (n : A) (xs : List A) → ascending (map key xs) ≡ true → length (put key n xs) ≡ length xs + cond (is_some (element_of key (key n) xs)) 0 1
   length_put n [] asc = refl
   length_put n (x ∷ xs) asc =
       let a = and_parts (headed (key x) (map key xs)) (ascending (map key xs)) asc in
@@ -102,10 +102,10 @@ module _ {A : Type 0} (key : A → ℕ) where
       (λ p. let l = ltb-false (key x) (key n) p in
       ⊎_elim
       (λ q. let f : put key n (x ∷ xs) ≡ n ∷ xs = cond-false (ltb (key x) (key n)) (x ∷ put key n xs) (n ∷ cond (eqb (key x) (key n)) xs (x ∷ xs)) p ∙ ap (λ ys. n ∷ ys) (cond-true (eqb (key x) (key n)) xs (x ∷ xs) q) in
-      let m : find key (key n) (x ∷ xs) ≡ Some x = cond-true (eqb (key x) (key n)) (Some x) (find key (key n) xs) q in
+      let m : element_of key (key n) (x ∷ xs) ≡ Some x = cond-true (eqb (key x) (key n)) (Some x) (element_of key (key n) xs) q in
       ap length f ∙ sym (ap (λ o. length (x ∷ xs) + cond (is_some o) 0 1) m ∙ (let z : length (x ∷ xs) + 0 ≡ suc (length xs) = omega arith in z)))
       (λ q. let e = eqb-false (key x) (key n) q in
-      let m : find key (key n) (x ∷ xs) ≡ None = find_below key (key n) (x ∷ xs) (lt-ltb (key n) (key x) (below (key n) (key x) l e)) asc in
+      let m : element_of key (key n) (x ∷ xs) ≡ None = find_below key (key n) (x ∷ xs) (lt-ltb (key n) (key x) (below (key n) (key x) l e)) asc in
       let f : put key n (x ∷ xs) ≡ n ∷ (x ∷ xs) = cond-false (ltb (key x) (key n)) (x ∷ put key n xs) (n ∷ cond (eqb (key x) (key n)) xs (x ∷ xs)) p ∙ ap (λ ys. n ∷ ys) (cond-false (eqb (key x) (key n)) xs (x ∷ xs) q) in
       ap length f ∙ sym (ap (λ o. length (x ∷ xs) + cond (is_some o) 0 1) m ∙ (let z : length (x ∷ xs) + 1 ≡ suc (suc (length xs)) = omega arith in z)))
       (cases_Bool (eqb (key x) (key n))))
@@ -131,12 +131,12 @@ module _ {A B : Type 0} (key : A → ℕ) (other : B → ℕ) (f : A → B) (sam
   map_keys [] = refl
   map_keys (x ∷ xs) = cc (same x, map_keys xs)
 
-  pub find_map : (k : ℕ) (xs : List A) → find other k (map f xs) ≡ option_map f (find key k xs)
+  pub find_map : (k : ℕ) (xs : List A) → element_of other k (map f xs) ≡ option_map f (element_of key k xs)
   find_map k [] = refl
   find_map k (x ∷ xs) =
-      let a = ap (λ j. cond (eqb j k) (Some (f x)) (find other k (map f xs))) (same x) in
+      let a = ap (λ j. cond (eqb j k) (Some (f x)) (element_of other k (map f xs))) (same x) in
       let b = ap (λ r. cond (eqb (key x) k) (Some (f x)) r) (find_map k xs) in
-      a ∙ (b ∙ sym (cond_map (option_map f) (eqb (key x) k) (Some x) (find key k xs)))
+      a ∙ (b ∙ sym (cond_map (option_map f) (eqb (key x) k) (Some x) (element_of key k xs)))
 
   pub put_map : (n : A) (xs : List A) → put other (f n) (map f xs) ≡ map f (put key n xs)
   put_map n [] = refl

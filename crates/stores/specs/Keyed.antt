@@ -1,4 +1,4 @@
-use Rattle.std.specs.Prelude.{ℕ, Bool, true, cond, ◌&&◌, List, [], ◌∷◌, Some, None, Option, ◌==◌, nat_lt}
+use Rattle.std.specs.Prelude.{ℕ, Bool, true, cond, ◌&&◌, List, [], ◌∷◌, Option, ◌==◌, nat_lt, find}
 
 -- A map as a list, each element with a number of its own, its key, in strictly ascending order of the keys.
 -- `key` gives an element's key.
@@ -12,9 +12,8 @@ ascending [] = true
 ascending (k ∷ ks) = headed k ks && ascending ks
 
 -- the element of a key
-abbrev pub find : {A : Type 0} → (A → ℕ) → ℕ → List A → Option A
-find key k [] = None
-find key k (x ∷ xs) = cond (key x == k) (Some x) (find key k xs)
+abbrev pub element_of : {A : Type 0} → (A → ℕ) → ℕ → List A → Option A
+element_of key k xs = find (λ x. key x == k) xs
 
 -- an element put in its place, over the one of its key if there is one
 abbrev pub put : {A : Type 0} → (A → ℕ) → A → List A → List A

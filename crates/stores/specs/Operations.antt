@@ -2,7 +2,7 @@ use Rattle.std.specs.Prelude.{ℕ, Bool, cond, ◌||◌, List, ◌++◌, map, le
 use Rattle.std.specs.Option.{option_map}
 use Rattle.values.specs.Rank.{rank, version_of}
 use Rattle.values.specs.declared.version.Version.{Version}
-use Rattle.stores.specs.Keyed.{find, put, without}
+use Rattle.stores.specs.Keyed.{element_of, put, without}
 use Rattle.stores.specs.Provider.{Pair, Cell, Provider, cell_key, keys}
 use Rattle.stores.specs.declared.stored.Stored.{Stored}
 
@@ -10,7 +10,7 @@ use Rattle.stores.specs.declared.stored.Stored.{Stored}
 
 -- A key is put over its old pair, or added while there is room. Otherwise the put is refused by 15.
 abbrev pub room_for : ℕ → Provider → Bool
-room_for k p = is_some (find cell_key k p.cells) || nat_lt (length p.cells) p.capacity
+room_for k p = is_some (element_of cell_key k p.cells) || nat_lt (length p.cells) p.capacity
 
 abbrev pub put_answer : Cell → Provider → Result (Unit {0}) ℕ
 put_answer c p = cond (room_for c.key p) (Ok tt) (Err 15)
@@ -22,7 +22,7 @@ abbrev pub remove_after : ℕ → Provider → Provider
 remove_after k p = record { capacity = p.capacity; cells = without cell_key k p.cells }
 
 abbrev pub get_answer : ℕ → Provider → Option Pair
-get_answer k p = option_map (λ c. c.pair) (find cell_key k p.cells)
+get_answer k p = option_map (λ c. c.pair) (element_of cell_key k p.cells)
 
 -- A list writes all keys, ascending, into the first places of a sheet, and the other places stay.
 -- A sheet that is too short is refused by 16.

@@ -6,7 +6,7 @@ use Rattle.std.proofs.lemmas.Simd.{map-map}
 use Rattle.std.proofs.lemmas.Bool.{le-leb, cond-true}
 use Rattle.values.specs.Rank.{version_of}
 use Rattle.values.specs.declared.version.Version.{Version}
-use Rattle.stores.specs.Keyed.{find, put, without}
+use Rattle.stores.specs.Keyed.{element_of, put, without}
 use Rattle.stores.specs.Provider.{Cell, Provider, cell_key, keys}
 use Rattle.stores.specs.Operations.{room_for, put_answer, put_after, remove_after, get_answer, list_sheet}
 use Rattle.stores.proofs.KeyedLists.{cond_map, find_map, put_map, without_map}
@@ -29,7 +29,7 @@ module _ {V : Type 0} (code : V → List ℕ) (room : ℕ) (us : List (Entry V))
   count_means = length-map us (entry_cell code)
 
   -- what a get answers, by what stands under the key
-  pub get_means : (k : ℕ) (r : Option (Entry V)) → find entry_key k us ≡ r → option_map (λ (c : Cell). c.pair) (option_map (entry_cell code) r) ≡ get_answer k provider_of
+  pub get_means : (k : ℕ) (r : Option (Entry V)) → element_of entry_key k us ≡ r → option_map (λ (c : Cell). c.pair) (option_map (entry_cell code) r) ≡ get_answer k provider_of
   get_means k r is = sym (ap (option_map (λ (c : Cell). c.pair)) (find_map entry_key cell_key (entry_cell code) (λ _. refl) k us ∙ ap (option_map (entry_cell code)) is))
 
   pub list_fits : (sheet after : List Version) → length us ≤ length sheet → after ≡ map (λ (e : Entry V). version_of (entry_key e)) us ++ drop (length us) sheet → after ≡ list_sheet provider_of sheet
@@ -46,8 +46,8 @@ module _ {V : Type 0} (code : V → List ℕ) (room : ℕ) (us : List (Entry V))
   module _ (e : Entry V) where
     room_means : room_for (entry_key e) provider_of ≡ entry_fits room e us
     room_means =
-        let a = ap is_some (find_map entry_key cell_key (entry_cell code) (λ _. refl) (entry_key e) us) ∙ mapped_some (entry_cell code) (find entry_key (entry_key e) us) in
-        ap (λ b. b || ltb (length (map (entry_cell code) us)) room) a ∙ ap (λ n. is_some (find entry_key (entry_key e) us) || ltb n room) count_means
+        let a = ap is_some (find_map entry_key cell_key (entry_cell code) (λ _. refl) (entry_key e) us) ∙ mapped_some (entry_cell code) (element_of entry_key (entry_key e) us) in
+        ap (λ b. b || ltb (length (map (entry_cell code) us)) room) a ∙ ap (λ n. is_some (element_of entry_key (entry_key e) us) || ltb n room) count_means
 
     pub put_means : (xs : List (Entry V)) → xs ≡ put_entry room e us → record { capacity = room; cells = map (entry_cell code) xs } ≡ put_after (entry_cell code e) provider_of
     put_means xs is =

@@ -3,7 +3,7 @@ use Rattle.std.specs.Coded.{Coded, Coded-set, coded_ℕ, coded_list, coded×, co
 use mathlib.Core.Path.{refl}
 use Rattle.values.specs.Rank.{rank}
 use Rattle.values.specs.declared.version.Version.{Version}
-use Rattle.stores.specs.Keyed.{find, put}
+use Rattle.stores.specs.Keyed.{element_of, put}
 use Rattle.stores.specs.Provider.{Cell, cell}
 use Rattle.table.specs.declared.entry.Entry.{Entry}
 
@@ -35,7 +35,7 @@ layout blank room used rest = used ++ (replicate (room - length used) (blank_ent
 
 -- A put of an entry among the used ones: over the one of its key, or as a new one while there is room.
 abbrev pub entry_fits : {V : Type 0} → ℕ → Entry V → List (Entry V) → Bool
-entry_fits room e used = is_some (find entry_key (entry_key e) used) || nat_lt (length used) room
+entry_fits room e used = is_some (element_of entry_key (entry_key e) used) || nat_lt (length used) room
 
 abbrev pub put_entry : {V : Type 0} → ℕ → Entry V → List (Entry V) → List (Entry V)
 put_entry room e used = cond (entry_fits room e used) (put entry_key e used) used

@@ -53,12 +53,14 @@ leads_left l r n i some size here =
 
 -- Those of the right one are numbered on from n. (A number has 64 bits, so n is then the whole length of the left row.)
 pub leads_right : (l r : List Provider) (n i : ℕ) → n ≡ size_of l → n < i → i < 2 ^ 64
-    → Renumbered i (l ++ r) (i - n) r (λ part. l ++ part)
+    → (i - n ≡ i - length l) × Renumbered i (l ++ r) (i - n) r (λ part. l ++ part)
 leads_right l r n i size past fits =
     let all = length-append l r in
     let long : length l ≡ n = omega arith in
     let place : i - 1 - n ≡ i - n - 1 = omega arith in
-    let known : has i (l ++ r) ≡ has (i - n) r = grind (arith, nat_tests) in
-    renumbered i (i - n) (l ++ r) r (λ part. l ++ part) refl known
-    (get_or-append_right l r n (i - 1) absent long (omega arith) ∙ ap (λ k. get_or r k absent) place)
-    (λ p. set-append_right l r n (i - 1) p long (omega arith) ∙ ap (λ k. l ++ set r k p) place)
+    let known : has i (l ++ r) ≡ has (i - n) r = grind (arith, nat_tests) in (
+      omega arith,
+      renumbered i (i - n) (l ++ r) r (λ part. l ++ part) refl known
+          (get_or-append_right l r n (i - 1) absent long (omega arith) ∙ ap (λ k. get_or r k absent) place)
+          (λ p. set-append_right l r n (i - 1) p long (omega arith) ∙ ap (λ k. l ++ set r k p) place),
+    )

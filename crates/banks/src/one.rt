@@ -27,6 +27,10 @@ fn only(i: usize) -> Result<(), Refusal>
 impl<V: Kind, S: Store<V>> Bank<V> for One<S> {
     ghost row = { λ b. S.Store.provider b.0 ∷ [] };
 
+    ghost puts = { λ b i c d. (i ≡ 1) × S.Store.puts b.0 c d.0 };
+
+    ghost removes = { λ b i k d. (i ≡ 1) × S.Store.removes b.0 k d.0 };
+
     ghost some = { λ b. Prim.search rules };
 
     ghost sound = { λ b. (record { few = S.Store.few b.0; sorted = S.Store.sorted b.0 }, tt) };

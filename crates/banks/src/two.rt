@@ -1,6 +1,6 @@
-ghost use Rattle.std.specs.Prelude.{◌++◌};
+ghost use Rattle.std.specs.Prelude.{◌-◌, ◌++◌, length};
 ghost use Rattle.std.proofs.ByRecursion.{All-append};
-ghost use Rattle.banks.specs.Sides.{Leads};
+ghost use Rattle.banks.specs.Sides.{Leads, OneSide};
 ghost use Rattle.banks.specs.Sound.{Sound, some_joined};
 
 use crate::bank::Bank;
@@ -32,6 +32,10 @@ fn side<V: Kind, L: Bank<V>, R: Bank<V>>(bank: &Two<L, R>, i: usize) -> Side
 
 impl<V: Kind, L: Bank<V>, R: Bank<V>> Bank<V> for Two<L, R> {
     ghost row = { λ b. L.Bank.row b.left ++ R.Bank.row b.right };
+
+    ghost puts = { λ b i c d. OneSide (λ l. L.Bank.puts l i c) (λ r. R.Bank.puts r (i - length (L.Bank.row b.left)) c) b d };
+
+    ghost removes = { λ b i k d. OneSide (λ l. L.Bank.removes l i k) (λ r. R.Bank.removes r (i - length (L.Bank.row b.left)) k) b d };
 
     ghost some = { λ b. some_joined (L.Bank.row b.left) (R.Bank.row b.right) (L.Bank.some b.left) };
 

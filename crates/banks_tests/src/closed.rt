@@ -1,4 +1,4 @@
-ghost use Rattle.std.specs.Prelude.{[], refl};
+ghost use Rattle.std.specs.Prelude.{◌≡◌, [], refl};
 ghost use Rattle.std.proofs.Common.{rules};
 
 use stores::store::Store;
@@ -13,6 +13,10 @@ pub struct Closed;
 
 impl<V: Kind> Store<V> for Closed {
     ghost provider = { λ _. record { capacity = 0; cells = [] } };
+
+    ghost puts = { λ _ _ _. ⊥ };
+
+    ghost removes = { λ s _ t. t ≡ s };
 
     ghost few = { λ _. Prim.search rules };
 

@@ -1,3 +1,6 @@
+ghost use Rattle.std.specs.Prelude.{◌≡◌, [], ◌∷◌};
+ghost use Rattle.stores.specs.Keyed.{without};
+ghost use Rattle.stores.specs.Provider.{cell_key};
 ghost use Rattle.banks_tests.specs.Slots.{slot_cells, slot_few, slot_sorted};
 
 use stores::store::Store;
@@ -21,6 +24,10 @@ pub struct Slot<V> {
 
 impl<V: Kind> Store<V> for Slot<V> {
     ghost provider = { λ s. record { capacity = 1; cells = slot_cells V.Kind.code s.held } };
+
+    ghost puts = { λ _ c t. slot_cells V.Kind.code t.held ≡ c ∷ [] };
+
+    ghost removes = { λ s k t. slot_cells V.Kind.code t.held ≡ without cell_key k (slot_cells V.Kind.code s.held) };
 
     ghost few = { λ s. slot_few V.Kind.code s.held };
 

@@ -1,5 +1,5 @@
 // Appending a record to a log, and what a put and a remove append.
-ghost use Rattle.std.specs.Prelude.{◌≡◌, ◌≤◌, true, length, is_some};
+ghost use Rattle.std.specs.Prelude.{◌≡◌, ◌≤◌, true, length, is_some, OnErr};
 ghost use Rattle.values.specs.Rank.{rank};
 ghost use Rattle.values.specs.Refusals.{outcome};
 ghost use Rattle.stores.specs.Keyed.{element_of};
@@ -49,6 +49,7 @@ impl<'a> Journal<'a> {
     ) -> Result<(), Refusal>
         requires { length value.now ≡ self.old.width }
         ensures answer { outcome (λ _. tt) result ≡ put_answer (cell key version value.now) (raw (contents_of self.old)) }
+        ensures refusal { OnErr result (self.new ≡ self.old) }
         ensures after { contents_of self.new ≡ with_records (contents_of self.old) (put_log (cell key version value.now) (contents_of self.old)) }
     {
         let present = self.is_present(key);

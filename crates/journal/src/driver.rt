@@ -1,4 +1,4 @@
-ghost use Rattle.std.specs.Prelude.{◌≡◌, ℕ, List, length};
+ghost use Rattle.std.specs.Prelude.{◌≡◌, ℕ, List, length, OnOk, OnErr};
 ghost use Rattle.values.specs.Rank.{rank};
 ghost use Rattle.values.specs.Refusals.{numbered};
 ghost use Rattle.stores.specs.Provider.{cell};
@@ -72,6 +72,10 @@ impl<'a> Journal<'a> {
 impl<'a, V: Kind> Store<V> for Journal<'a> {
     ghost provider = { λ j. provider_of V.Kind.WIDTH (normal V.Kind.decoded V.Kind.coded (V.Kind.code V.Kind.nothing)) (contents_of j) };
 
+    ghost puts = { λ j c k. Holds k (put_contents V.Kind.WIDTH c (contents_of j)) };
+
+    ghost removes = { λ j key k. Holds k (remove_contents V.Kind.WIDTH key (contents_of j)) };
+
     ghost few = { λ j. few_cells V.Kind.WIDTH (normal V.Kind.decoded V.Kind.coded (V.Kind.code V.Kind.nothing)) j };
 
     ghost sorted = { λ j. sorted_cells V.Kind.WIDTH (normal V.Kind.decoded V.Kind.coded (V.Kind.code V.Kind.nothing)) j };
@@ -109,6 +113,8 @@ impl<'a, V: Kind> Store<V> for Journal<'a> {
     fn put(&mut self, key: Key, version: Version, value: V) -> Result<(), Refusal>
         ensures answer { numbered result ≡ put_answer (cell key version (V.Kind.code value)) (⟦<Self as Store<V>>⟧.provider self.old) }
         ensures after { ⟦<Self as Store<V>>⟧.provider self.new ≡ put_after (cell key version (V.Kind.code value)) (⟦<Self as Store<V>>⟧.provider self.old) }
+        ensures refusal { OnErr result (self.new ≡ self.old) }
+        ensures once { OnOk result (⟦<Self as Store<V>>⟧.puts self.old (cell key version (V.Kind.code value)) self.new) }
         ensures log { Holds self.new (put_contents V.Kind.WIDTH (cell key version (V.Kind.code value)) (contents_of self.old)) }
     {
         if !self.serves::<V>() {
@@ -123,7 +129,7 @@ impl<'a, V: Kind> Store<V> for Journal<'a> {
 
     fn remove(&mut self, key: Key)
         ensures after { ⟦<Self as Store<V>>⟧.provider self.new ≡ remove_after (rank key) (⟦<Self as Store<V>>⟧.provider self.old) }
-        ensures log { Holds self.new (remove_contents V.Kind.WIDTH (rank key) (contents_of self.old)) }
+        ensures once { Holds self.new (remove_contents V.Kind.WIDTH (rank key) (contents_of self.old)) }
     {
         if self.serves::<V>() {
             self.remove_key(key);

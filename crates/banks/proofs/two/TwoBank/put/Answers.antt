@@ -11,4 +11,4 @@ returns-in-Left-clause-after g c =
 pub returns-in-Right-clause-after : goal.returns-in-Right-clause-after
 returns-in-Right-clause-after g c =
     let step = put_after (cell c.args.key c.args.version (g.V.Kind.code c.args.value)) in
-    ap (λ r. g.L.Bank.row c.args.self.now.left ++ r) c.put-in-Right.ensures.after ∙ sym (c.in-Right.ensures.stepped step)
+    ap (λ r. g.L.Bank.row c.args.self.now.left ++ r) c.put-in-Right.ensures.after ∙ sym (c.in-Right.ensures.1.stepped step)

@@ -11,4 +11,4 @@ returns-in-Left-clause-after g c =
 pub returns-in-Right-clause-after : goal.returns-in-Right-clause-after
 returns-in-Right-clause-after g c =
     let step = remove_after (rank c.args.key) in
-    ap (λ r. g.L.Bank.row c.args.self.now.left ++ r) c.remove-in-Right.ensures.after ∙ sym (c.in-Right.ensures.stepped step)
+    ap (λ r. g.L.Bank.row c.args.self.now.left ++ r) c.remove-in-Right.ensures.after ∙ sym (c.in-Right.ensures.1.stepped step)

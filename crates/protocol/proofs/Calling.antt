@@ -1,5 +1,5 @@
 -- Begin, post, land, stop and lose keep a view and its history matched to a run.
-use Rattle.std.proofs.Common.{◌≡◌, ℕ, ◌+◌, ◌<◌, ◌≤◌, Bool, true, false, not, ◌&&◌, ◌||◌, [], ◌++◌, length, sym, refl, ap, ◌∙◌, subst, ap₂, inl, inr, arith}
+use Rattle.std.proofs.Common.{◌≡◌, ℕ, ◌+◌, ◌<◌, ◌≤◌, Bool, true, false, not, ◌||◌, [], ◌++◌, length, sym, refl, ap, ◌∙◌, subst, ap₂, inl, inr, arith}
 use Rattle.std.proofs.lemmas.Bool.{cond_both, cases_eq, or_parts, true≢false}
 use Rattle.stores.specs.Provider.{Provider}
 use Rattle.protocol.specs.Answers.{Answer, ok}
@@ -22,7 +22,7 @@ use Rattle.protocol.proofs.ModelSteps.{ModelState, Step, update_two}
 use Rattle.protocol.proofs.OpenWrites.{own, opens, opens_same, own_short}
 use Rattle.protocol.proofs.Providers.{few_keys_held, provider_kept}
 use Rattle.protocol.proofs.Register.{Run, goes, both}
-use Rattle.protocol.proofs.Simulation.{transit_of, pend, pending, seen, Match, DoingOk, Come, Always, story, Reached, still, seen_cong, same_progress, ask_seen, Working, active, enter_match, turn_roomy, line_roomy, none_counted, doing_same, seat_moves}
+use Rattle.protocol.proofs.Simulation.{transit_of, pend, pending, seen, Match, DoingOk, Come, Always, story, Reached, still, seen_cong, same_progress, ask_seen, Working, active, enter_match, turn_roomy, line_roomy, turn_free_if_done, line_free_if_done, none_counted, doing_same, seat_moves}
 use Rattle.protocol.proofs.Trace.{trace_step, begun_trace}
 use Rattle.protocol.proofs.Updates.{at5, update_map, update_two_map, update_two_row, update_two_else}
 use Rattle.protocol.proofs.View.{View, with_line, turn, version_kept, begin, post, land_line, land, stop, lose}
@@ -81,8 +81,9 @@ module _ (n seats : ℕ) where
               ons = w.ons;
               finished = w.finished;
               arranged = w.arranged;
-              doings = doing_line V w s i line (λ x q. sym (ap₂ ◌&&◌ (ap is_free e) nd));
+              doings = doing_line V w s i line (λ x q. refl);
               roomy = line_roomy V s i line refl w.roomy;
+              free_if_done = line_free_if_done V s i line (λ d. absurd (true≢false (sym d ∙ nd))) w.free_if_done;
               large = w.large;
             };
           }
@@ -116,6 +117,7 @@ module _ (n seats : ℕ) where
       arranged = subst (λ l. Arranged (w.finished ++ l) w.trace.order) (begin_opens V s (version_kept a (V.version s)) w.trace.clock d w (subst (λ a. DoingOk n (V.line s) a (V.version s) (w.doing s) (w.ons s)) e (w.doings s tt)) none) w.arranged;
       doings = λ o _. at5 (λ o a ls v d t. DoingOk n ls a v d t) V.activity V.line V.version w.doing w.ons s a (λ i. restart_line (V.line s i)) (version_kept a (V.version s)) d 0 fine (λ o _. w.doings o tt) o;
       roomy = turn_roomy V s w.roomy;
+      free_if_done = turn_free_if_done V s w.free_if_done;
       large = w.large;
     };
   }
@@ -154,6 +156,7 @@ module _ (n seats : ℕ) where
       arranged = w.arranged;
       doings = λ o _. at1 (λ o a. DoingOk n (V.line o) a (V.version o) (w.doing o) (w.ons o)) V.activity s stopped tt (λ o _. w.doings o tt) o;
       roomy = w.roomy;
+      free_if_done = w.free_if_done;
       large = w.large;
     };
   })
@@ -161,7 +164,7 @@ module _ (n seats : ℕ) where
   pub lose_reach : (V : View) (i : ℕ) → (w : Come n seats V Always) → Reached n seats (lose i V).0 (story w)
   lose_reach V i w = cond_both (V.lost i) _ _ (λ (z : View × Answer). Reached n seats z.0 (story w)) (λ _. still w) (λ _. record {
     is = refl;
-    come = record { st = w.st; trace = w.trace; run = w.run; match = record { seats = w.match.seats; transits = w.match.transits; cells = w.match.cells }; doing = w.doing; ons = w.ons; finished = w.finished; arranged = w.arranged; doings = w.doings; roomy = w.roomy; large = w.large };
+    come = record { st = w.st; trace = w.trace; run = w.run; match = record { seats = w.match.seats; transits = w.match.transits; cells = w.match.cells }; doing = w.doing; ons = w.ons; finished = w.finished; arranged = w.arranged; doings = w.doings; roomy = w.roomy; free_if_done = w.free_if_done; large = w.large };
   })
 
   -- land
@@ -186,8 +189,9 @@ module _ (n seats : ℕ) where
             ons = w.ons;
             finished = w.finished;
             arranged = w.arranged;
-            doings = doing_line V w s i line (λ x _. sym (ap (λ t. t && (V.line s i).progress.done) (ap is_free e)));
+            doings = doing_line V w s i line (λ x _. refl);
             roomy = line_roomy V s i line (reply_roomy q d fits) w.roomy;
+            free_if_done = line_free_if_done V s i line (λ t. absurd (true≢false (sym (w.free_if_done s i t) ∙ ap is_free e))) w.free_if_done;
             large = at1 (λ j (p : Provider). j < n → seats + 2 ≤ p.capacity) V.provider i (served q d) (λ _. subst (λ k. seats + 2 ≤ k) (sym (same_capacity q d)) (w.large i li)) (λ j _. w.large j);
           };
         }

@@ -1,5 +1,5 @@
 -- A fetch as a whole.
-use Rattle.std.proofs.Common.{◌≡◌, ℕ, suc, ◌<◌, ◌≤◌, Bool, true, false, ◌&&◌, None, sym, refl, ap, ◌∙◌, subst, subst₂}
+use Rattle.std.proofs.Common.{◌≡◌, ℕ, suc, ◌<◌, ◌≤◌, Bool, true, false, sym, refl, ap, ◌∙◌, subst, subst₂}
 use Rattle.std.proofs.lemmas.Bool.{cond_both, true≢false}
 use Rattle.protocol.specs.Answers.{Answer}
 use Rattle.protocol.specs.History.{fetch_noted}
@@ -20,7 +20,7 @@ use Rattle.protocol.proofs.Model.{Code, list_done, top}
 use Rattle.protocol.proofs.ModelLines.{TransitOk, update_same, update_other}
 use Rattle.protocol.proofs.ModelSteps as S
 use Rattle.protocol.proofs.Register.{goes, both}
-use Rattle.protocol.proofs.Simulation.{transit_of, pend, pending, seen, Match, DoingOk, Come, Always, But, story, Reached, still, same_progress, line_roomy, doing_same}
+use Rattle.protocol.proofs.Simulation.{transit_of, pend, pending, seen, Match, DoingOk, Come, Always, But, story, Reached, still, same_progress, line_roomy, line_free_if_done, not_done, doing_same}
 use Rattle.protocol.proofs.Calling.{doing_line}
 use Rattle.protocol.proofs.Updates.{update_two_map, update_two_row, update_two_else}
 use Rattle.protocol.proofs.View.{View, freed, conclude, judge, fetch_line, fetch}
@@ -65,10 +65,9 @@ module _ (n seats : ℕ) (n0 : 0 < n) (small : seats ≤ 65534) (V : View) (s i 
           ons = w.ons;
           finished = w.finished;
           arranged = w.arranged;
-          doings = doing_line n seats V w s i new (λ x q.
-              let blank : list_progress (pending (listing x) (V.line s i)) ≡ None = transit_fact (listing x) true r q e in
-              sym (list_is_done p) ∙ (ap list_done (ap list_progress (sym (ap (pend (listing x) p) e)) ∙ blank) ∙ sym (ap (λ t. t && p.done) (ap is_free e))));
+          doings = doing_line n seats V w s i new (λ x q. refl);
           roomy = line_roomy V s i new refl w.roomy;
+          free_if_done = line_free_if_done V s i new (λ _. refl) w.free_if_done;
           large = w.large;
         };
       }
@@ -92,6 +91,7 @@ module _ (n seats : ℕ) (n0 : 0 < n) (small : seats ≤ 65534) (V : View) (s i 
       arranged = w.arranged;
       doings = λ o d. doing_same n (V.line o) (T.line o) (V.activity o) (V.version o) (w.doing o) (w.ons o) (λ x q j. ap counts (update_two_else V.line s i line o j d)) (w.doings o tt);
       roomy = line_roomy V s i line refl w.roomy;
+      free_if_done = line_free_if_done V s i line (λ _. refl) w.free_if_done;
       large = w.large;
     }
 
@@ -103,7 +103,7 @@ module _ (n seats : ℕ) (n0 : 0 < n) (small : seats ≤ 65534) (V : View) (s i 
         let heard : list_done (list_progress (pending (listing x) (V.line s i))) ≡ true = transit_fact (listing x) false r q e in
         let at_i : T.line s i ≡ line = update_two_row V.line s i line i ∙ update_same (V.line s) i line in
         let new : counts (T.line s i) ≡ true = ap counts at_i ∙ (ap (λ a. (advance a r (V.line s i).progress).done) q ∙ (ap (λ w. (pend (listing x) (V.line s i).progress w).done) (sym e) ∙ (sym (list_is_done (pending (listing x) (V.line s i))) ∙ heard))) in
-        let old : counts (V.line s i) ≡ false = ap (λ t. t && (V.line s i).progress.done) (ap is_free e) in
+        let old : counts (V.line s i) ≡ false = not_done (V.line s i) (w.free_if_done s i) (ap is_free e) in
         count_one (λ j. counts (V.line s j)) (λ j. counts (T.line s j)) n i li old new (λ j d. ap counts (update_two_row V.line s i line j ∙ update_other (V.line s) i j line d)) ∙ ap suc (sym (doing_at (listing x) q).1)
 
     settled : (a : Activity) → V.activity s ≡ a → foreign a (record { state = answered false r; progress = (V.line s i).progress }) ≡ false →

@@ -18,7 +18,7 @@ use Rattle.protocol.proofs.ModelSteps.{ModelState, Step, or_zero, version_of}
 use Rattle.protocol.proofs.OpenWrites.{own, own_short, own_long, opens, opens_same, opens_insert, write_since}
 use Rattle.protocol.proofs.Quorums.{listed_free, found_free, newest_most, now, seat_eq, quorum, most_eq, Picked, picked}
 use Rattle.protocol.proofs.Register.{goes, register}
-use Rattle.protocol.proofs.Simulation.{seen, DoingOk, Come, But, told, story, Reached, enter_match, turn_roomy}
+use Rattle.protocol.proofs.Simulation.{seen, DoingOk, Come, But, told, story, Reached, enter_match, turn_roomy, turn_free_if_done}
 use Rattle.protocol.proofs.Trace.{Trace, trace_step, end_writes}
 use Rattle.protocol.proofs.View.{View, turn, version_kept, conclude}
 
@@ -85,6 +85,7 @@ module _ (n seats : ℕ) (V : View) (s : ℕ) (l : s < seats) (w : Come n seats 
       arranged = subst (λ m. Arranged (w.finished ++ m) L.order) (opens_kept (update w.ons s (suc (w.ons s))) V.version w.doing (else_update w.ons (suc (w.ons s))) (λ i _. refl) (λ i _. refl) (same ∙ ap (λ o. own q (L.since s) o (V.version s) (w.doing s)) (sym (update_same w.ons s (suc (w.ons s)))))) w.arranged;
       doings = λ o _. at1 (λ o t. DoingOk n (V.line o) (V.activity o) (V.version o) (w.doing o) t) w.ons s (suc (w.ons s)) (subst (λ a. DoingOk n (V.line s) a (V.version s) (w.doing s) (suc (w.ons s))) (sym e) h) w.doings o;
       roomy = w.roomy;
+      free_if_done = w.free_if_done;
       large = w.large;
     };
   }
@@ -108,6 +109,7 @@ module _ (n seats : ℕ) (V : View) (s : ℕ) (l : s < seats) (w : Come n seats 
       doings = λ o _. at3 (λ o a ls v. DoingOk n ls a v (doing o) (ons o)) V.activity V.line V.version s a (λ i. restart_line (V.line s i)) (version_kept a (V.version s)) h
           (λ o ne. subst₂ (DoingOk n (V.line o) (V.activity o) (V.version o)) (ed o ne) (eo o ne) (w.doings o ne)) o;
       roomy = turn_roomy V s w.roomy;
+      free_if_done = turn_free_if_done V s w.free_if_done;
       large = w.large;
     };
   }
@@ -125,7 +127,7 @@ module _ (n seats : ℕ) (V : View) (s : ℕ) (l : s < seats) (w : Come n seats 
 
   pub settle_list : (x : Code) → V.activity s ≡ listing x → w.doing s ≡ writing x → done_lines (V.line s) n ≡ suc (w.ons s) → w.ons s < q → Settled (phase_result n (suc s) (V.line s) (listing x))
   settle_list x e dx cnt lt = cond_both (leb q (done_lines (V.line s) n)) _ _ Settled
-      (λ t. let qu = quorum n V s st w.match (listing x) e (λ p. list_done (list_progress p)) list_is_done (leb-true _ _ t) in
+      (λ t. let qu = quorum n V s st w.match (listing x) e (w.free_if_done s) (λ p. list_done (list_progress p)) list_is_done (leb-true _ _ t) in
       cond_both (leb 999999 (largest_listed (V.line s) n / 65536)) _ _ Settled
       (λ _. go_to idle M.idle refl _ _ _ _ _ (S.uses_up s x p (seat_eq n V s st w.match (listing x) e)) (update w.doing s resting) w.ons w.finished (else_update w.doing resting) (λ i _. refl) (rest_arranged none) (update_same w.doing s resting))
       (λ _. subst (λ u. Reached n seats (turn V s (storing true u x)) (fetch_noted s on H)) (ap (λ k. next_version k (suc s)) same) (given qu (omega (arith, leb-true _ _ t, cnt)))))
@@ -135,7 +137,7 @@ module _ (n seats : ℕ) (V : View) (s : ℕ) (l : s < seats) (w : Come n seats 
       p i = list_progress (now n V s st w.match (listing x) e i)
 
       same : most (S.listed st s p) n ≡ largest_listed (V.line s) n
-      same = most_eq n V s st w.match (listing x) e (λ p. or_zero (list_progress p)) listed_on listed_free (λ l h. ap (λ b. cond (b && l.progress.done) l.progress.largest 0) h)
+      same = most_eq n V s st w.match (listing x) e (w.free_if_done s) (λ p. or_zero (list_progress p)) listed_on listed_free (λ l h. ap (λ b. cond b l.progress.largest 0) h)
 
       none : own_now ≡ []
       none = ap (own q (L.since s) (w.ons s) (V.version s)) dx ∙ own_short q (L.since s) (w.ons s) (V.version s) x lt
@@ -156,8 +158,8 @@ module _ (n seats : ℕ) (V : View) (s : ℕ) (l : s < seats) (w : Come n seats 
 
   pub settle_gather : (b : Bool) → V.activity s ≡ gathering b → w.doing s ≡ reading b → Settled (phase_result n (suc s) (V.line s) (gathering b))
   settle_gather b e dx = cond_both (leb q (done_lines (V.line s) n)) _ _ Settled
-      (λ t. ended_by b e dx (quorum n V s st w.match (gathering b) e (λ p. gather_done (gather_progress p)) gather_is_done (leb-true _ _ t)) (newest_found (V.line s) n) (picked n V s st w.match (gathering b) e n)
-      (most_eq n V s st w.match (gathering b) e (λ p. version_of (gather_progress p)) (λ l. version_in (found_on l)) found_free (λ l h. ap (λ c. version_in (cond (c && l.progress.done) l.progress.found None)) h) ∙ sym (newest_most (V.line s) n)))
+      (λ t. ended_by b e dx (quorum n V s st w.match (gathering b) e (w.free_if_done s) (λ p. gather_done (gather_progress p)) gather_is_done (leb-true _ _ t)) (newest_found (V.line s) n) (picked n V s st w.match (gathering b) e (w.free_if_done s) n)
+      (most_eq n V s st w.match (gathering b) e (w.free_if_done s) (λ p. version_of (gather_progress p)) (λ l. version_in (found_on l)) found_free (λ l h. ap (λ c. version_in (cond c l.progress.found None)) h) ∙ sym (newest_most (V.line s) n)))
       (λ f. wait (gathering b) e dx (own_read b dx _ _ _ ∙ sym (own_read b dx _ _ _)))
     where
       ended_by : (b : Bool) (e : V.activity s ≡ gathering b) → w.doing s ≡ reading b → q ≤ count (λ i. S.is_free (st.transit s i) && gather_done (gather_progress (now n V s st w.match (gathering b) e i))) n → (o : Option Pair) → Picked n V s st w.match (gathering b) e o →
@@ -184,13 +186,13 @@ module _ (n seats : ℕ) (V : View) (s : ℕ) (l : s < seats) (w : Come n seats 
     pub settle_store : (b : Bool) (v : ℕ) (x : Code) → V.activity s ≡ storing b v x → DoingOk n (V.line s) (storing b v x) (V.version s) (w.doing s) (w.ons s) → Settled (phase_result n (suc s) (V.line s) (storing b v x))
     settle_store false v x e dx = cond_both (leb q (done_lines (V.line s) n)) _ _ Settled
         (λ t. subst (λ d. Reached n seats (turn V s idle) (read_by s v (Some x) d H)) (sym dx)
-        (go_to idle M.idle refl _ _ _ _ _ (S.ends s false v x (λ i. store_progress (now n V s st w.match (storing false v x) e i)) l (seat_eq n V s st w.match (storing false v x) e) (quorum n V s st w.match (storing false v x) e (λ p. store_done (store_progress p)) store_is_done (leb-true _ _ t)))
+        (go_to idle M.idle refl _ _ _ _ _ (S.ends s false v x (λ i. store_progress (now n V s st w.match (storing false v x) e i)) l (seat_eq n V s st w.match (storing false v x) e) (quorum n V s st w.match (storing false v x) e (w.free_if_done s) (λ p. store_done (store_progress p)) store_is_done (leb-true _ _ t)))
         (update w.doing s resting) w.ons (read_op v (Some x) ∷ w.finished) (else_update w.doing resting) (λ i _. refl)
         (more (rest_arranged (own_read true dx _ _ _)) (ordered_inserted (read_op v (Some x)) L.order)) (update_same w.doing s resting)))
         (λ f. wait (storing false v x) e dx (own_read true dx _ _ _ ∙ sym (own_read true dx _ _ _)))
     settle_store true v x e dx = cond_both (leb q (done_lines (V.line s) n)) _ _ Settled
         (λ t. subst (λ d. Reached n seats (turn V s idle) (wrote_by s v d H)) (sym dx.0)
-        (go_to idle M.idle refl _ _ _ _ _ (S.ends s true v x (λ i. store_progress (now n V s st w.match (storing true v x) e i)) l (seat_eq n V s st w.match (storing true v x) e) (quorum n V s st w.match (storing true v x) e (λ p. store_done (store_progress p)) store_is_done (leb-true _ _ t)))
+        (go_to idle M.idle refl _ _ _ _ _ (S.ends s true v x (λ i. store_progress (now n V s st w.match (storing true v x) e i)) l (seat_eq n V s st w.match (storing true v x) e) (quorum n V s st w.match (storing true v x) e (w.free_if_done s) (λ p. store_done (store_progress p)) store_is_done (leb-true _ _ t)))
         (update w.doing s resting) w.ons (record { write = true; begun = L.since s; ended = L.clock; version = v; value = Some x } ∷ w.finished) (else_update w.doing resting) (λ i _. refl) wrote (update_same w.doing s resting)))
         (λ f. wait (storing true v x) e (dx.0, omega (arith, dx.1), dx.2) (opened (w.ons s) dx.1 ∙ sym (opened (suc (w.ons s)) (omega (arith, dx.1)))))
       where

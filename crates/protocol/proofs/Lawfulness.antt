@@ -48,7 +48,7 @@ module _ (m n : ℕ) (n0 : 0 < n) (small : m ≤ 65534) where
   ticked : (C : State) (H : History) → Sound C H → Sound C (next_call H)
   ticked C H h = let w = h.come in record {
     sized = h.sized;
-    come = record { st = w.st; trace = tick w.trace; run = ticks w.run; match = w.match; doing = w.doing; ons = w.ons; finished = w.finished; arranged = w.arranged; doings = w.doings; roomy = w.roomy; large = w.large };
+    come = record { st = w.st; trace = tick w.trace; run = ticks w.run; match = w.match; doing = w.doing; ons = w.ons; finished = w.finished; arranged = w.arranged; doings = w.doings; roomy = w.roomy; free_if_done = w.free_if_done; large = w.large };
     alike = next_alike (story w) H h.alike;
   }
 
@@ -126,6 +126,7 @@ module _ (m n : ℕ) (n0 : 0 < n) (small : m ≤ 65534) where
         arranged = subst (λ l. Arranged l []) (sym (opens_none (majority n) (λ s. 0) (λ s. 0) (view m n C).version m)) done;
         doings = λ s _. subst (λ a. DoingOk n ((view m n C).line s) a ((view m n C).version s) resting 0) (sym (idle_at s)) refl;
         roomy = λ s i. ap holds_refusal (free_at s i);
+        free_if_done = λ s i _. ap lines.is_free (free_at s i);
         large = λ i l. (All-get_or (λ (p : Provider). (p.cells ≡ []) × (m + 2 ≤ p.capacity)) C.row i no_provider (omega (arith, h.row)) h.empty).1;
       };
       alike = record { clock = refl; since = λ s. refl; doing = λ s. refl; ons = λ s. refl; finished = refl; plain = refl };

@@ -1,6 +1,7 @@
 -- A view, and its history, match a run of the model.
-use Rattle.std.proofs.Common.{◌≡◌, ℕ, zero, suc, ◌+◌, ◌<◌, ◌≤◌, true, false, ◌&&◌, ◌≢◌, List, ◌++◌, Option, sym, refl, ap, ◌∙◌, subst}
+use Rattle.std.proofs.Common.{◌≡◌, ℕ, zero, suc, ◌+◌, ◌<◌, ◌≤◌, Bool, true, false, ◌≢◌, List, ◌++◌, Option, sym, refl, ap, ◌∙◌, subst}
 use mathlib.Core.Path.{fun_ext}
+use Rattle.std.proofs.lemmas.Bool.{true≢false}
 use Rattle.stores.specs.Provider.{Provider}
 use Rattle.protocol.specs.History.{History, Operation, Doing, resting, writing, reading, update}
 use Rattle.protocol.specs.Law.{holds_refusal}
@@ -60,6 +61,18 @@ DoingOk n ls (gathering b) v d o = d ≡ reading b
 DoingOk n ls (storing true u x) v d o = (d ≡ writing x) × (majority n ≤ o) × (v ≡ u)
 DoingOk n ls (storing false u x) v d o = d ≡ reading true
 
+-- a line that is done is free
+abbrev pub FreeIfDone : Line → Type 0
+FreeIfDone l = l.progress.done ≡ true → is_free l.state ≡ true
+
+-- so a line that is not free is not done
+pub not_done : (l : Line) → FreeIfDone l → is_free l.state ≡ false → l.progress.done ≡ false
+not_done l r f = go l.progress.done r
+  where
+    go : (b : Bool) → (b ≡ true → is_free l.state ≡ true) → b ≡ false
+    go true r = absurd (true≢false (sym (r refl) ∙ f))
+    go false r = refl
+
 -- What a view has come to is what some run comes to. Of seat s, if `but` says so, the history is still to be told.
 pub record Come (n seats : ℕ) (V : View) (but : ℕ → Type 0) : Type 0 where
   pub st : ModelState
@@ -72,6 +85,7 @@ pub record Come (n seats : ℕ) (V : View) (but : ℕ → Type 0) : Type 0 where
   pub arranged : Arranged (finished ++ opens (majority n) trace.since ons V.version doing seats) trace.order
   pub doings : (s : ℕ) → but s → DoingOk n (V.line s) (V.activity s) (V.version s) (doing s) (ons s)
   pub roomy : (s i : ℕ) → holds_refusal (V.line s i).state ≡ false
+  pub free_if_done : (s i : ℕ) → FreeIfDone (V.line s i)
   pub large : (i : ℕ) → i < n → seats + 2 ≤ (V.provider i).capacity
 
 abbrev pub Always : ℕ → Type 0
@@ -156,21 +170,16 @@ turn_roomy V s h = at1 (λ o ls. (i : ℕ) → holds_refusal (ls i).state ≡ fa
 pub line_roomy : (V : View) (s i : ℕ) (l : Line) → holds_refusal l.state ≡ false → ((s i : ℕ) → holds_refusal (V.line s i).state ≡ false) → (o j : ℕ) → holds_refusal (update_two V.line s i l o j).state ≡ false
 line_roomy V s i l a h = at_line (λ o j l. holds_refusal l.state ≡ false) V.line s i l a h
 
--- no line counts in a phase that starts
-never_counts : (l : Line) → counts (restart_line l) ≡ false
-never_counts l = go l.state
-  where
-    go : (w : LineState) → (is_free (stale_state w) && false) ≡ false
-    go free = refl
-    go (sent b r) = refl
-    go (answered b r) = refl
+pub turn_free_if_done : (V : View) (s : ℕ) → ((s i : ℕ) → FreeIfDone (V.line s i)) → (o i : ℕ) → FreeIfDone (update V.line s (λ i. restart_line (V.line s i)) o i)
+turn_free_if_done V s h = at1 (λ o ls. (i : ℕ) → FreeIfDone (ls i)) V.line s (λ i. restart_line (V.line s i)) (λ i d. absurd (true≢false (sym d))) (λ o _. h o)
 
+pub line_free_if_done : (V : View) (s i : ℕ) (l : Line) → FreeIfDone l → ((s i : ℕ) → FreeIfDone (V.line s i)) → (o j : ℕ) → FreeIfDone (update_two V.line s i l o j)
+line_free_if_done V s i l a h = at_line (λ o j l. FreeIfDone l) V.line s i l a h
+
+-- no line counts in a phase that starts
 pub none_counted : (k : ℕ) (ls : ℕ → Line) → done_lines (λ i. restart_line (ls i)) k ≡ 0
-none_counted k ls = ap (λ f. count f k) (fun_ext (λ i. never_counts (ls i))) ∙ zero_count k
-  where
-    zero_count : (k : ℕ) → count (λ i. false) k ≡ 0
-    zero_count zero = refl
-    zero_count (suc k) = zero_count k
+none_counted zero ls = refl
+none_counted (suc k) ls = none_counted k ls
 
 -- one line is written again, and counts as before
 pub doing_same : (n : ℕ) (ls ks : ℕ → Line) (a : Activity) (v : ℕ) (d : Doing) (o : ℕ) → ((x : Code) → a ≡ listing x → (j : ℕ) → counts (ks j) ≡ counts (ls j)) → DoingOk n ls a v d o → DoingOk n ks a v d o

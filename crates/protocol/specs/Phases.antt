@@ -1,7 +1,7 @@
-use Rattle.std.specs.Prelude.{ℕ, zero, suc, ◌+◌, ◌*◌, ◌/◌, max, Bool, true, false, cond, ◌&&◌, List, Some, None, Option, nat_le, nat_lt}
+use Rattle.std.specs.Prelude.{ℕ, zero, suc, ◌+◌, ◌*◌, ◌/◌, max, Bool, true, false, cond, List, Some, None, Option, nat_le, nat_lt}
 use Rattle.stores.specs.Provider.{Pair}
 use Rattle.protocol.specs.Answers.{Answer, on, wrote, read, read_none, used}
-use Rattle.protocol.specs.Lines.{is_free, Line}
+use Rattle.protocol.specs.Lines.{Line}
 use Rattle.protocol.specs.Seats.{Activity, idle, stopped, listing, gathering, storing}
 
 -- How a phase ends, once enough of a seat's lines are done. `lines i` is the seat's line at provider i, from 0 on.
@@ -19,9 +19,10 @@ most f (suc n) = max (f n) (most f n)
 abbrev pub majority : ℕ → ℕ
 majority n = n / 2 + 1
 
--- A line counts as done where it is done and free.
+-- A line counts as done where its record says so. (On a run such a line is free: a line is done by a fetch, which frees it,
+-- and is not posted while it is done.)
 abbrev pub counts : Line → Bool
-counts l = is_free l.state && l.progress.done
+counts l = l.progress.done
 
 abbrev pub done_lines : (ℕ → Line) → ℕ → ℕ
 done_lines lines n = count (λ i. counts (lines i)) n

@@ -129,11 +129,11 @@ impl<V: Kind> Line<V> {
         }
     }
 
-    // Whether the line counts as done: it is done and free.
+    // Whether the line counts as done: where its record says so, free or not.
     pub fn counts(&self) -> bool
         ensures { result ≡ counts (line_means V.Kind.code self.now) }
     {
-        self.done && self.is_free()
+        self.done
     }
 
     // The largest key that it listed, if it counts.

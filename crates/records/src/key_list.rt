@@ -2,6 +2,7 @@ ghost use Rattle.std.specs.Prelude.{◌≡◌, ◌+◌, ◌<◌, ◌≤◌, ◌|
 ghost use Rattle.values.specs.Rank.{rank};
 ghost use Rattle.protocol.specs.Moves.{largest_key, keys_but};
 ghost use Rattle.protocol.specs.Stages.{any_left};
+ghost use Rattle.records.specs.Blanks.{no_keys};
 ghost use Rattle.records.specs.Means.{listed};
 
 use values::version::Key;
@@ -23,9 +24,9 @@ fn skips(key: Key, other: Key) -> bool
 }
 
 impl KeyList {
+    // No key, and the standing key in all 32 places.
     pub fn empty() -> KeyList
-        ensures keys { listed result ≡ [] }
-        ensures places { (result.from ≡ 0) × (result.end ≡ 0) }
+        ensures { result ≡ no_keys }
     {
         KeyList {
             keys: [Key::STANDING; 32],

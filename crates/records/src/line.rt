@@ -5,6 +5,7 @@ ghost use Rattle.protocol.specs.Phases.{counts, listed_on, found_on};
 ghost use Rattle.std.specs.Option.{option_map};
 ghost use Rattle.values.specs.Rank.{rank};
 ghost use Rattle.stores.specs.Operations.{pair_means};
+ghost use Rattle.records.specs.Blanks.{blank_line_record};
 ghost use Rattle.records.specs.Means.{line_means, transit_means, progress_means, request_means, answer_means};
 
 use crate::key_list::KeyList;
@@ -78,7 +79,8 @@ impl<V: Kind> Transit<V> {
 impl<V: Kind> Line<V> {
     // A free line at the start of a phase, with its other fields zero or blank.
     pub fn blank() -> Line<V>
-        ensures { line_means V.Kind.code result ≡ blank_line }
+        ensures means { line_means V.Kind.code result ≡ blank_line }
+        ensures whole { result ≡ blank_line_record }
     {
         Line {
             transit: Transit::Free,

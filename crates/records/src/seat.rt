@@ -1,6 +1,7 @@
 ghost use Rattle.std.specs.Prelude.{◌≡◌};
 ghost use Rattle.values.specs.Rank.{rank};
 ghost use Rattle.protocol.specs.Seats.{blank_seat, activity, is_idle, is_stopped, turned_to, listing, gathering, storing, idle, stopped};
+ghost use Rattle.records.specs.Blanks.{blank_seat_record};
 ghost use Rattle.records.specs.Means.{seat_means};
 
 use protocol::operation::OperationKind;
@@ -23,7 +24,8 @@ pub struct Seat<V> {
 impl<V: Kind> Seat<V> {
     // An idle seat, with its other fields zero or blank.
     pub fn blank() -> Seat<V>
-        ensures { seat_means V.Kind.code result ≡ record blank_seat { value = V.Kind.code V.Kind.nothing } }
+        ensures means { seat_means V.Kind.code result ≡ record blank_seat { value = V.Kind.code V.Kind.nothing } }
+        ensures whole { result ≡ blank_seat_record V.Kind.nothing }
     {
         Seat {
             phase: Phase::Idle,

@@ -3,9 +3,9 @@ use values::version::Key;
 
 // One input line: a text, and the key to store it under.
 #[derive(Clone, Copy, Drop)]
-pub struct Request<'a> {
-    pub key: Key,
-    pub text: &'a str,
+pub(crate) struct Request<'a> {
+    pub(crate) key: Key,
+    pub(crate) text: &'a str,
 }
 
 fn all_digits(text: &str) -> bool {
@@ -27,7 +27,7 @@ fn parse_key(number: &str, seat: &str) -> Option<Key> {
 }
 
 // The request in a line `NUMBER SEAT TEXT`, whose parts stand one space apart, with a text of printable bytes.
-pub fn parse(line: &[u8]) -> Option<Request<'_>> {
+pub(crate) fn parse(line: &[u8]) -> Option<Request<'_>> {
     let line = from_utf8(line).ok()?;
     let mut parts = line.split(' ');
     let number = parts.next()?;

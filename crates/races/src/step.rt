@@ -7,7 +7,7 @@ use values::secret::Secret;
 // One step of a story. Each request to a provider goes with words that say what is asked. (A step is told, counted and turned
 // into calls, so it is data: as a closure it could do only one of these.)
 #[derive(Clone, Copy)]
-pub enum Step {
+pub(crate) enum Step {
     // words of the teller
     Say(&'static str),
     // a seat begins to write a secret
@@ -40,7 +40,7 @@ fn push(calls: &mut Vec<Exchange<Secret>>, call: Call<Secret>) -> Result<(), All
 
 impl Step {
     // How many calls of the relay the step makes.
-    pub fn call_count(self) -> usize {
+    pub(crate) fn call_count(self) -> usize {
         match self {
             Step::Say(_) => 0,
             Step::Ask(..) => 3,
@@ -49,7 +49,7 @@ impl Step {
     }
 
     // Adds the calls that the step makes.
-    pub fn push_calls(self, calls: &mut Vec<Exchange<Secret>>) -> Result<(), AllocError> {
+    pub(crate) fn push_calls(self, calls: &mut Vec<Exchange<Secret>>) -> Result<(), AllocError> {
         match self {
             Step::Say(_) => Ok(()),
             Step::Write(seat, text) => push(calls, Call::BeginWrite(seat, secret_of(text))),

@@ -2,7 +2,7 @@
 use crate::step::Step;
 
 // A put of an old secret is carried out after a newer secret was written.
-pub const LATE_PUT: &[Step] = &[
+pub(crate) const LATE_PUT: &[Step] = &[
     Step::Say(
         "Seat 1 writes. Provider 3 is slow: the put for it is still under way when the write is done.",
     ),
@@ -44,7 +44,7 @@ pub const LATE_PUT: &[Step] = &[
 ];
 
 // A key is removed after a reader has listed it and before it gets it.
-pub const REMOVED_KEY: &[Step] = &[
+pub(crate) const REMOVED_KEY: &[Step] = &[
     Step::Say("Seat 1 writes."),
     Step::Write(1, "old-password"),
     Step::Ask(1, 1, "list the keys"),
@@ -80,7 +80,7 @@ pub const REMOVED_KEY: &[Step] = &[
 ];
 
 // A provider is lost in the middle of a write.
-pub const LOST_PROVIDER: &[Step] = &[
+pub(crate) const LOST_PROVIDER: &[Step] = &[
     Step::Say(
         "Seat 1 writes. Provider 1 has half of it, and is lost before the rest is carried out.",
     ),

@@ -60,7 +60,7 @@ impl fmt::Display for Outcome {
 }
 
 // Prints a step, and the answer to the first of its calls that was refused, or else to the last.
-pub fn tell(rt: &HostRuntime, step: Step, calls: &[Exchange<Secret>]) -> io::Result<()> {
+pub(crate) fn tell(rt: &HostRuntime, step: Step, calls: &[Exchange<Secret>]) -> io::Result<()> {
     let told = calls
         .iter()
         .find(|call| call.answer.is_err())

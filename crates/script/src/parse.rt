@@ -38,7 +38,7 @@ fn parse_settled(part: &str) -> Option<bool> {
 }
 
 // The call in a line: a letter, a number and perhaps one more part, one space apart.
-pub fn parse(line: &[u8]) -> Option<Call<Secret>> {
+pub(crate) fn parse(line: &[u8]) -> Option<Call<Secret>> {
     let line = from_utf8(line).ok()?;
     let mut parts = line.split(' ');
     let letter = sole_char(parts.next()?)?;

@@ -5,7 +5,8 @@ It reads script lines from standard input and prints the answer to each. docs/FO
 the rules. tests/compare runs it beside the program.
 
 How it differs from the program: a provider is a dictionary, whatever its make; a line carries the list of requests that
-it has yet to make, and not a stage; and a script is worked through line by line, with no list of calls in between.
+it has yet to make, and not a stage; and a script is worked through line by line, with no list of calls in between. Sheets
+are always those that the calls of a script leave, so they are never too short, and no line is foreign.
 """
 
 import sys
@@ -23,6 +24,9 @@ MOST_LOOKS = 4_294_967_295
 
 LIST = ("list",)
 
+# the answer to a put that found no room: the refusal's number
+NO_ROOM = 15
+
 
 class Refused(Exception):
     """A call that is refused, with the refusal's number. It has changed nothing."""
@@ -35,7 +39,8 @@ class Refused(Exception):
 class Provider:
     """A key-value store with room for so many keys."""
 
-    def __init__(self):
+    def __init__(self, capacity):
+        self.capacity = capacity
         self.pairs = {}
         self.lost = False
 
@@ -50,8 +55,8 @@ class Provider:
             self.pairs.pop(rest[0], None)
             return "done"
         key, pair = rest
-        if key not in self.pairs and len(self.pairs) >= CAPACITY:
-            return "full"
+        if key not in self.pairs and len(self.pairs) >= self.capacity:
+            return NO_ROOM
         self.pairs[key] = pair
         return "done"
 
@@ -64,17 +69,17 @@ class Line:
         self.stale = False
         self.request = None
         self.answer = None
+        self.largest = NO_VERSION
+        self.found = None
         self.restart()
 
     def restart(self):
-        """A phase of the seat starts, or its operation ends."""
+        """A phase of the seat starts, or its operation ends. The largest key and the pair stay as they were."""
         if self.state != "free":
             self.stale = True
         self.todo = [LIST]
         self.done = False
         self.mark = None
-        self.largest = NO_VERSION
-        self.found = None
 
     def finish(self):
         self.todo = []
@@ -100,7 +105,7 @@ def storing_requests(temporary, version, text):
     largest = temporary[-1] if temporary else NO_VERSION
     requests = [("remove", key) for key in temporary[:-1]]
     requests.append(("put", STANDING, (version, text)))
-    if largest < version:
+    if not temporary or largest < version:
         requests.append(("put", version, (version, text)))
         if temporary:
             requests.append(("remove", largest))
@@ -108,9 +113,9 @@ def storing_requests(temporary, version, text):
 
 
 class Relay:
-    def __init__(self):
+    def __init__(self, capacity=CAPACITY):
         self.seats = [Seat() for _ in range(SEATS)]
-        self.providers = [Provider() for _ in range(PROVIDERS)]
+        self.providers = [Provider(capacity) for _ in range(PROVIDERS)]
         self.looks = 0
 
     # The checks of a call stand in the order in which they are made.
@@ -125,22 +130,25 @@ class Relay:
             raise Refused(6)
         return self.providers[i - 1]
 
-    def begin(self, s, operation, phase, text):
+    def begin(self, s, operation, phase):
+        """Begins an operation, and gives its seat."""
         seat = self.seat(s)
         if seat.phase == "stopped":
             raise Refused(7)
         if seat.phase != "idle":
             raise Refused(8)
         seat.operation = operation
-        seat.text = text
+        seat.version = NO_VERSION
         seat.turn(phase)
-        return "ok"
+        return seat
 
     def begin_write(self, s, text):
-        return self.begin(s, "write", "listing", text)
+        self.begin(s, "write", "listing").text = text
+        return "ok"
 
     def begin_read(self, s, settled):
-        return self.begin(s, "settled" if settled else "plain", "gathering", "")
+        self.begin(s, "settled" if settled else "plain", "gathering")
+        return "ok"
 
     def post(self, s, i):
         seat = self.seat(s)
@@ -182,11 +190,13 @@ class Relay:
         line.state = "free"
         if line.stale:
             return "dropped"
-        if line.answer != "full":
-            self.move(seat, line)
-        if sum(each.done for each in seat.lines) < MAJORITY:
+        if line.answer == NO_ROOM:
             return "on"
-        return self.end_phase(s, seat)
+        self.move(seat, line)
+        done = [each for each in seat.lines if each.done]
+        if len(done) < MAJORITY:
+            return "on"
+        return self.end_phase(s, seat, done)
 
     def stop(self, s):
         seat = self.seat(s)
@@ -248,8 +258,7 @@ class Relay:
 
     # What happens once a majority of a seat's lines are done.
 
-    def end_phase(self, s, seat):
-        done = [line for line in seat.lines if line.done]
+    def end_phase(self, s, seat, done):
         if seat.phase == "listing":
             return self.end_listing(s, seat, max(line.largest for line in done))
         if seat.phase == "gathering":
@@ -276,10 +285,11 @@ class Relay:
         if best[0] == NO_VERSION:
             seat.turn("idle")
             return "none"
-        seat.version, seat.text = best
+        version, text = best
         if seat.operation == "plain":
             seat.turn("idle")
-            return "read %d %d %s" % (*seat.version, seat.text)
+            return "read %d %d %s" % (*version, text)
+        seat.version, seat.text = version, text
         seat.turn("storing")
         return "on"
 

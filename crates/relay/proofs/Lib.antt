@@ -7,4 +7,6 @@ mod Locating
 mod RelaySteps
 mod Asking
 mod Landings
-mod Openings
+mod Rooms
+mod BankSteps
+pub mod Openings

@@ -14,7 +14,7 @@ admitted_fits None m n seats lines k eq = go (ltb seats m || ltb lines (m * n)) 
         let p = or_parts (ltb seats m) (ltb lines (m * n)) is in
         (ltb-false seats m p.0, ltb-false lines (m * n) p.1, cc)
 
-inside : (s m : ℕ) → outside s m ≡ false → (1 ≤ s) × (s ≤ m)
+pub inside : (s m : ℕ) → outside s m ≡ false → (1 ≤ s) × (s ≤ m)
 inside s m is = let p = and_parts (leb 1 s) (leb s m) (not-false (leb 1 s && leb s m) is) in (leb-true 1 s p.0, leb-true s m p.1)
 
 -- the place of a number that is one of m

@@ -1,5 +1,5 @@
 -- A relay's step, from the line or the refusal that was found.
-use Rattle.std.proofs.Common.{◌≡◌, ℕ, ◌+◌, ◌-◌, ◌*◌, Bool, true, false, cond, IsErrAnd, List, length, set, is_ok, Ok, Err, Result, sym, refl, ap, ◌∙◌, ap₂, arith}
+use Rattle.std.proofs.Common.{◌≡◌, ℕ, ◌+◌, ◌-◌, ◌*◌, Bool, true, false, cond, IsErrAnd, List, length, set, is_ok, Ok, Err, Result, sym, ap, ◌∙◌, ap₂, arith}
 use Rattle.std.proofs.lemmas.List.{length-map, set-get_or}
 use Rattle.values.specs.Refusals.{refusal_number, numbered}
 use Rattle.values.specs.declared.refusal.Refusal.{Refusal}
@@ -15,7 +15,7 @@ use Rattle.records.specs.declared.line.Line.{Line}
 use Rattle.records.specs.declared.seat.Seat.{Seat}
 use Rattle.relay.specs.Checks.{located, seated, post_check, stop_check}
 use Rattle.relay.specs.Effects.{beginning_means, begin_call}
-use Rattle.relay.specs.RelayState.{RelayState, overlong, unless_overlong, admission_of, admitted, with_state, relay_state, relay_step, line_of, seat_of, provider_of}
+use Rattle.relay.specs.RelayState.{RelayState, admission_of, admitted, with_state, relay_state, relay_step, line_of, seat_of, provider_of}
 use Rattle.relay.specs.Sheets.{acknowledged, post_on, land_on, fetch_on}
 use Rattle.relay.specs.declared.beginning.Beginning.{Beginning}
 use Rattle.relay.specs.declared.beginning.Beginning.TheVariants as begins
@@ -85,6 +85,14 @@ module _ (R : RelayState) (s i : ℕ) where
   pub fetch_found : (A : Result ℕ ℕ) (at : Place) → Ok at ≡ line_of A R.seat_count s i → with_state R (fetch_on at.seat.providers at.seat.seat at.provider R.state) ≡ admitted A (fetch s i) R
   fetch_found (Err d) at eq = absurd (let z : ◌≡◌ {A = ℕ} 0 1 = cc in omega arith)
   fetch_found (Ok n) at eq = ap (with_state R) (two_passed R.seat_count n s i at R.state (λ n s i. fetch_on n s i R.state) eq)
+
+  pub land_refused : (A : Result ℕ ℕ) (e : ℕ) → Err e ≡ line_of A R.seat_count s i → (R, refused e) ≡ admitted A (land s i) R
+  land_refused (Err d) e eq = cc
+  land_refused (Ok n) e eq = ap (with_state R) (two_refused R.seat_count n s i e R.state _ eq)
+
+  pub land_found : (A : Result ℕ ℕ) (at : Place) → Ok at ≡ line_of A R.seat_count s i → with_state R (land_on at.seat.providers at.seat.seat at.provider R.state) ≡ admitted A (land s i) R
+  land_found (Err d) at eq = absurd (let z : ◌≡◌ {A = ℕ} 0 1 = cc in omega arith)
+  land_found (Ok n) at eq = ap (with_state R) (two_passed R.seat_count n s i at R.state (λ n s i. land_on n s i R.state) eq)
 
 -- what post leaves, from its check
 pub post_done : (n s i : ℕ) (C : State) (q : sea.Seat) (l next : lin.Line) (r : Result (Unit {0}) Refusal) (lines : List lin.Line) → q ≡ seat_at C s → l ≡ line_at n C.lines s i → numbered r ≡ post_check (activity q) l → next ≡ cond (is_ok r) (post_line (activity q) l) l → lines ≡ set C.lines (s * n + i) next → (record { seats = C.seats; lines = lines; row = C.row; lost = C.lost; looks = C.looks }, acknowledged r) ≡ post_on n s i C
@@ -172,27 +180,3 @@ pub now_lost : (i : ℕ) (C : State) (flags : List Bool) → lost_at C i ≡ fal
 now_lost i C flags is eq =
     let f : List Bool → State × Answer = λ l. (record { seats = C.seats; lines = C.lines; row = C.row; lost = l; looks = C.looks }, ok) in
     ap f eq ∙ sym (ap (λ b. check b 12 C (record { seats = C.seats; lines = C.lines; row = C.row; lost = set C.lost i true; looks = C.looks }, ok)) is)
-
--- land, with its guard
-module _ (R : RelayState) (s i : ℕ) where
-  guard_refused : (b : Bool) (e : ℕ) → ◌≡◌ {A = State × Answer} (unless_overlong b R.state (R.state, refused e)) (R.state, refused e)
-  guard_refused true e = refl
-  guard_refused false e = refl
-
-  guard_inside : (n : ℕ) → unless_overlong (overlong n (s - 1) (i - 1) R.state) R.state (check (outside s R.seat_count) 5 R.state (check (outside i n) 6 R.state (land_on n (s - 1) (i - 1) R.state))) ≡ check (outside s R.seat_count) 5 R.state (check (outside i n) 6 R.state (unless_overlong (overlong n (s - 1) (i - 1) R.state) R.state (land_on n (s - 1) (i - 1) R.state)))
-  guard_inside n = by (outside s R.seat_count) (outside i n)
-    where
-      by : (b d : Bool) → unless_overlong (overlong n (s - 1) (i - 1) R.state) R.state (cond b (R.state, refused 5) (cond d (R.state, refused 6) (land_on n (s - 1) (i - 1) R.state))) ≡ cond b (R.state, refused 5) (cond d (R.state, refused 6) (unless_overlong (overlong n (s - 1) (i - 1) R.state) R.state (land_on n (s - 1) (i - 1) R.state)))
-      by true d = guard_refused (overlong n (s - 1) (i - 1) R.state) 5
-      by false true = guard_refused (overlong n (s - 1) (i - 1) R.state) 6
-      by false false = refl
-
-  pub land_refused : (A : Result ℕ ℕ) (e : ℕ) → Err e ≡ line_of A R.seat_count s i → (R, refused e) ≡ admitted A (land s i) R
-  land_refused (Err d) e eq = cc
-  land_refused (Ok n) e eq = ap (with_state R) (sym (guard_refused (overlong n (s - 1) (i - 1) R.state) e) ∙ ap (unless_overlong (overlong n (s - 1) (i - 1) R.state) R.state) (two_refused R.seat_count n s i e R.state _ eq))
-
-  pub land_found : (A : Result ℕ ℕ) (at : Place) → Ok at ≡ line_of A R.seat_count s i → with_state R (unless_overlong (overlong at.seat.providers at.seat.seat at.provider R.state) R.state (land_on at.seat.providers at.seat.seat at.provider R.state)) ≡ admitted A (land s i) R
-  land_found (Err d) at eq = absurd (let z : ◌≡◌ {A = ℕ} 0 1 = cc in omega arith)
-  land_found (Ok n) at eq =
-      let guarded : ℕ → ℕ → ℕ → State × Answer = λ n s i. unless_overlong (overlong n s i R.state) R.state (land_on n s i R.state) in
-      ap (with_state R) (two_passed R.seat_count n s i at R.state guarded eq ∙ sym (guard_inside n))

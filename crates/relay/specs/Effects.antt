@@ -1,19 +1,15 @@
-use Rattle.std.specs.Prelude.{◌≡◌, ℕ, ◌*◌, ◌<◌, Bool, true, false, cond, List, ◌++◌, length, drop, Ok, Err, Result, nat_lt, slice_index_or, slice_set}
-use Rattle.values.specs.Refusals.{refusal_number}
-use Rattle.values.specs.declared.refusal.Refusal.{Refusal}
-use Rattle.stores.specs.Provider.{Provider, keys}
+use Rattle.std.specs.Prelude.{◌≡◌, ℕ, ◌*◌, ◌<◌, Bool, false, cond, List, ◌++◌, length, drop, Ok, Err, Result, slice_index_or, slice_set}
+use Rattle.stores.specs.Provider.{Provider}
 use Rattle.banks.specs.Row.{absent}
 use Rattle.protocol.specs.Answers.{Call, begin_write, begin_read, Answer, ok, refused}
 use Rattle.protocol.specs.Lines as lin
 use Rattle.protocol.specs.Lines.{LineState, free, sent, answered}
-use Rattle.protocol.specs.Requests.{Request, list_keys, get_key, put_cell, remove_key, reply, served}
+use Rattle.protocol.specs.Requests.{reply, served}
 use Rattle.protocol.specs.Seats.{Activity, listing, gathering}
 use Rattle.protocol.specs.Seats as sea
 use Rattle.protocol.specs.State.{State}
-use Rattle.records.specs.Means.{listed, answer_means, seat_means}
-use Rattle.records.specs.declared.key_list.KeyList.{KeyList}
+use Rattle.records.specs.Means.{seat_means}
 use Rattle.records.specs.declared.line.Line.{Line}
-use Rattle.records.specs.declared.line.Reply.{Reply}
 use Rattle.records.specs.declared.seat.Seat.{Seat}
 use Rattle.relay.specs.Sheets.{lines_mean}
 use Rattle.relay.specs.declared.beginning.Beginning.{Beginning}
@@ -53,29 +49,11 @@ abbrev pub begin_call : {V : Type 0} → (V → List ℕ) → ℕ → Beginning 
 begin_call code s (begins.Write x) = begin_write s (code x)
 begin_call code s (begins.Read b) = begin_read s b
 
--- whether a request asks for more keys than a line keeps
-abbrev pub too_long : Request → Provider → Bool
-too_long list_keys p = nat_lt 32 (length p.cells)
-too_long (get_key k) p = false
-too_long (put_cell c) p = false
-too_long (remove_key k) p = false
-
--- what asking for keys comes to
-abbrev pub Keyed : Result KeyList Refusal → Provider → Type 0
-Keyed (Ok l) p = (nat_lt 32 (length p.cells) ≡ false) × (listed l ≡ keys p)
-Keyed (Err e) p = (nat_lt 32 (length p.cells) ≡ true) × (refusal_number e ≡ 16)
-
--- What asking provider p, at place i of a row, comes to: its reply, and the step that it takes; or a refusal by 16, and then
--- nothing changes.
-abbrev pub Asked : {V : Type 0} → (V → List ℕ) → Request → ℕ → Provider → List Provider → Result (Result (Reply V) Refusal) Refusal → List Provider → Type 0
-Asked code q i p row (Ok a) row_now = (too_long q p ≡ false) × (answer_means code a ≡ reply q p) × (row_now ≡ slice_set row i (served q p))
-Asked code q i p row (Err e) row_now = (too_long q p ≡ true) × (refusal_number e ≡ 16) × (row_now ≡ row)
-
 -- what land comes to on a line's state: a refusal, or the reply and the step of the provider
 abbrev pub landing : LineState → Provider → Result (LineState × Provider) ℕ
 landing free p = Err 13
 landing (answered b r) p = Err 13
-landing (sent b q) p = cond (too_long q p) (Err 16) (Ok (answered b (reply q p), served q p))
+landing (sent b q) p = Ok (answered b (reply q p), served q p)
 
 abbrev pub land_check : Bool → LineState → Provider → Result (LineState × Provider) ℕ
 land_check lost w p = cond lost (Err 12) (landing w p)

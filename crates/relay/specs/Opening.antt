@@ -1,4 +1,4 @@
-use Rattle.std.specs.Prelude.{ℕ, zero, suc, ◌+◌, ◌*◌, Bool, true, false, cond, not, ◌&&◌, ◌||◌, List, [], ◌∷◌, length, Some, None, Ok, Err, Result, ◌==◌, nat_le, nat_lt, slice_index_or, slice_set}
+use Rattle.std.specs.Prelude.{◌≡◌, ℕ, zero, suc, ◌+◌, ◌*◌, Bool, true, false, cond, not, ◌&&◌, ◌||◌, List, [], ◌∷◌, length, take, replicate, Some, None, Ok, Err, Result, ◌==◌, nat_le, nat_lt, slice_index_or, slice_set}
 use Rattle.stores.specs.Provider.{Provider}
 use Rattle.banks.specs.Row.{absent, size_of}
 use Rattle.protocol.specs.Lines as lin
@@ -6,6 +6,9 @@ use Rattle.protocol.specs.Seats as sea
 use Rattle.protocol.specs.Steps.{outside}
 use Rattle.protocol.specs.declared.operation.OperationKind.TheVariants.{Write}
 use Rattle.protocol.specs.declared.phase.Phase.TheVariants.{Idle}
+use Rattle.records.specs.Blanks.{blank_line_record, blank_seat_record}
+use Rattle.records.specs.declared.line.Line.{Line}
+use Rattle.records.specs.declared.seat.Seat.{Seat}
 use Rattle.relay.specs.RelayState.{RelayState}
 
 -- a provider with a capacity that open accepts for m seats; and one that holds no key
@@ -44,3 +47,8 @@ none_lost = false ∷ false ∷ false ∷ false ∷ false ∷ false ∷ false �
 abbrev pub opened : Result (Unit {0}) ℕ → ℕ → List ℕ → List Provider → List sea.Seat → List lin.Line → RelayState
 opened (Ok u) m nothing row seats lines = record { refusal = None; seat_count = m; state = record { seats = cleared (fresh_seat nothing) m seats; lines = cleared lin.blank_line (m * size_of row) lines; row = row; lost = none_lost; looks = 0 } }
 opened (Err e) m nothing row seats lines = record { refusal = Some e; seat_count = 0; state = record { seats = seats; lines = lines; row = row; lost = none_lost; looks = 0 } }
+
+-- The first m seats and the first k lines are blank, field by field, where `nothing` is the blank value.
+pub record FirstBlank {V : Type 0} (nothing : V) (m k : ℕ) (all_seats : List (Seat V)) (all_lines : List (Line V)) : Type 0 where
+  pub seats : take m all_seats ≡ replicate m (blank_seat_record nothing)
+  pub lines : take k all_lines ≡ replicate k blank_line_record

@@ -2,7 +2,7 @@
 ghost use Rattle.std.specs.Prelude.{◌≡◌, ◌-◌, ◌*◌, not, ◌||◌, if◌then◌else◌, Ok, Err, nat_lt};
 ghost use Rattle.values.specs.Refusals.{refusal_number, numbered};
 ghost use Rattle.protocol.specs.Steps.{outside};
-ghost use Rattle.relay.specs.RelayState.{admission_of};
+ghost use Rattle.relay.specs.RelayState.{admission_of, bank_of, inner_of};
 
 use crate::relay::Relay;
 use banks::bank::Bank;
@@ -28,12 +28,10 @@ fn sheets_fit(m: usize, n: usize, seats: usize, lines: usize) -> bool
         .is_some_and(|places| m <= seats && places <= lines)
 }
 
-impl<B> Relay<B> {
+impl<V: Kind, B: Bank<V>> Relay<V, B> {
     // The number of providers, if the relay takes calls and the sheets are long enough.
-    pub(crate) fn admit<V: Kind>(&self, seats: usize, lines: usize) -> Result<usize, Refusal>
-    where
-        B: Bank<V>,
-        ensures { numbered result ≡ admission_of (B.Bank.row self.now.bank) self.now.inner seats lines }
+    pub(crate) fn admit(&self, seats: usize, lines: usize) -> Result<usize, Refusal>
+        ensures { numbered result ≡ admission_of (B.Bank.row (bank_of self.now)) (inner_of self.now) seats lines }
     {
         if let Some(refusal) = self.inner.refused {
             return Err(refusal);

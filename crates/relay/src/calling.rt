@@ -1,9 +1,9 @@
 // Any call, as a value.
-ghost use Rattle.std.specs.Prelude.{◌≡◌, true, is_err};
-ghost use Rattle.banks.specs.Row.{size_of};
+ghost use Rattle.std.specs.Prelude.{◌≡◌, length, true, is_err};
 ghost use Rattle.records.specs.Means.{call_means, told};
+ghost use Rattle.relay.specs.BankSteps.{BankStep};
 ghost use Rattle.relay.specs.Effects.{BeyondAll};
-ghost use Rattle.relay.specs.RelayState.{relay_means, relay_step};
+ghost use Rattle.relay.specs.RelayState.{relay_means, relay_step, bank_of, inner_of};
 ghost use Rattle.relay.specs.Sheets.{acknowledged};
 
 use crate::relay::Relay;
@@ -23,20 +23,18 @@ fn accepted<V: Kind>(answer: Result<(), Refusal>) -> Result<Answer<V>, Refusal>
     answer.map(|()| Answer::Accepted)
 }
 
-impl<B> Relay<B> {
+impl<V: Kind, B: Bank<V>> Relay<V, B> {
     // Makes a call. (Each kind of call has arguments of its own and lends other sheets, so this is a match.)
-    pub fn call<V: Kind>(
+    pub fn call(
         &mut self,
         seats: &mut [Seat<V>],
         lines: &mut [Line<V>],
         call: Call<V>,
     ) -> Result<Answer<V>, Refusal>
-    where
-        B: Bank<V>,
         ensures step { (relay_means V.Kind.code B.Bank.row self.new seats.new lines.new, told V.Kind.code result) ≡ relay_step (relay_means V.Kind.code B.Bank.row self.old seats.old lines.old) (call_means V.Kind.code call) }
-        ensures beyond { BeyondAll self.old.inner.seats (size_of (B.Bank.row self.old.bank)) seats.old lines.old seats.new lines.new }
-        ensures refusal { is_err result ≡ true → (seats.new ≡ seats.old) × (lines.new ≡ lines.old) × (self.new.inner ≡ self.old.inner) }
-        ensures bank { is_err result ≡ true → self.new.bank ≡ self.old.bank }
+        ensures beyond { BeyondAll (inner_of self.old).seats (length (B.Bank.row (bank_of self.old))) seats.old lines.old seats.new lines.new }
+        ensures refusal { is_err result ≡ true → (seats.new ≡ seats.old) × (lines.new ≡ lines.old) × (inner_of self.new ≡ inner_of self.old) × (bank_of self.new ≡ bank_of self.old) }
+        ensures bank { BankStep B.Bank.puts B.Bank.removes (relay_means V.Kind.code B.Bank.row self.old seats.old lines.old) (call_means V.Kind.code call) (bank_of self.old) (bank_of self.new) }
     {
         match call {
             Call::BeginWrite(seat, value) => accepted(self.begin_write(seats, lines, seat, value)),

@@ -1,10 +1,13 @@
 // A request arrives at its provider.
-ghost use Rattle.std.specs.Prelude.{◌≡◌, ◌-◌, ◌*◌, ◌<◌, true, drop, is_err, slice_index_or};
-ghost use Rattle.banks.specs.Row.{has, absent, size_of};
+ghost use Rattle.std.specs.Prelude.{◌≡◌, ◌+◌, ◌-◌, ◌*◌, ◌<◌, ◌≤◌, true, length, drop, is_none, is_err, slice_index_or, slice_set};
+ghost use Rattle.stores.specs.Provider.{keys};
+ghost use Rattle.banks.specs.Row.{has, absent};
 ghost use Rattle.protocol.specs.Answers.{land as land_call};
-ghost use Rattle.records.specs.Means.{line_means, request_means};
-ghost use Rattle.relay.specs.Effects.{Keyed, Asked, Landed};
-ghost use Rattle.relay.specs.RelayState.{relay_means, relay_step, lost_flags};
+ghost use Rattle.protocol.specs.Requests.{reply, served};
+ghost use Rattle.records.specs.Means.{listed, answer_means, line_means, request_means};
+ghost use Rattle.relay.specs.BankSteps.{Carried, Lands, BankStep};
+ghost use Rattle.relay.specs.Effects.{Landed};
+ghost use Rattle.relay.specs.RelayState.{relay_means, relay_step, lost_flags, bank_of, inner_of};
 ghost use Rattle.relay.specs.Sheets.{acknowledged};
 
 use crate::relay::Relay;
@@ -17,15 +20,16 @@ use values::kind::Kind;
 use values::refusal::Refusal;
 use values::version::Key;
 
-// The keys of provider i, of which a line keeps at most 32. (That there is a provider i is asked for here and in `ask`: a type
-// for such a number would borrow the bank, which `ask` changes.)
-fn ask_keys<V: Kind, B: Bank<V>>(bank: &B, i: usize) -> Result<KeyList, Refusal>
-    requires { has i (B.Bank.row bank.now) ≡ true }
-    ensures { Keyed result (slice_index_or (B.Bank.row bank.now) (i - 1) absent) }
+// The keys of provider i, of which a line keeps at most 32. (That there is a provider i, and that its keys fit, is asked for
+// here and in `ask`: a type for such a number would borrow the bank, which `ask` changes.)
+fn ask_keys<V: Kind, B: Bank<V>>(bank: &B, i: usize) -> KeyList
+    requires has { has i (B.Bank.row bank.now) ≡ true }
+    requires fits { length (slice_index_or (B.Bank.row bank.now) (i - 1) absent).cells ≤ 32 }
+    ensures { listed result ≡ keys (slice_index_or (B.Bank.row bank.now) (i - 1) absent) }
 {
     let mut keys = [Key::STANDING; 32];
-    let count = bank.list(i, &mut keys)?;
-    Ok(KeyList::of(keys, count))
+    let count = bank.list(i, &mut keys).unwrap();
+    KeyList::of(keys, count)
 }
 
 // Asks provider i of a bank.
@@ -33,55 +37,53 @@ fn ask<V: Kind, B: Bank<V>>(
     bank: &mut B,
     i: usize,
     request: Request<V>,
-) -> Result<Result<Reply<V>, Refusal>, Refusal>
-    requires { has i (B.Bank.row bank.old) ≡ true }
-    ensures asked { Asked V.Kind.code (request_means V.Kind.code request) (i - 1) (slice_index_or (B.Bank.row bank.old) (i - 1) absent) (B.Bank.row bank.old) result (B.Bank.row bank.new) }
-    ensures bank { is_err result ≡ true → bank.new ≡ bank.old }
+) -> Result<Reply<V>, Refusal>
+    requires has { has i (B.Bank.row bank.old) ≡ true }
+    requires fits { length (slice_index_or (B.Bank.row bank.old) (i - 1) absent).cells ≤ 32 }
+    ensures answer { answer_means V.Kind.code result ≡ reply (request_means V.Kind.code request) (slice_index_or (B.Bank.row bank.old) (i - 1) absent) }
+    ensures after { B.Bank.row bank.new ≡ slice_set (B.Bank.row bank.old) (i - 1) (served (request_means V.Kind.code request) (slice_index_or (B.Bank.row bank.old) (i - 1) absent)) }
+    ensures once { Carried B.Bank.puts B.Bank.removes i (request_means V.Kind.code request) (answer_means V.Kind.code result) bank.old bank.new }
 {
     match request {
-        Request::List => Ok(Ok(Reply::Keys(ask_keys::<V, B>(bank, i)?))),
-        Request::Get(key) => Ok(Ok(Reply::Got(bank.get(i, key)?))),
+        Request::List => Ok(Reply::Keys(ask_keys::<V, B>(bank, i))),
+        Request::Get(key) => Ok(Reply::Got(bank.get(i, key).unwrap())),
         Request::Put(key, Stored { version, value }) => {
-            Ok(bank.put(i, key, version, value).map(|()| Reply::Done))
+            bank.put(i, key, version, value).map(|()| Reply::Done)
         }
         Request::Remove(key) => {
-            bank.remove(i, key)?;
-            Ok(Ok(Reply::Done))
+            bank.remove(i, key).unwrap();
+            Ok(Reply::Done)
         }
     }
 }
 
-impl<B> Relay<B> {
-    // A line's request is carried out at its provider, and the line has its answer. The seat may have stopped. (`bank` stands
-    // here, at `land_line` and at `call`: it is what each promises.)
-    pub fn land<V: Kind>(
+impl<V: Kind, B: Bank<V>> Relay<V, B> {
+    // A line's request is carried out at its provider, and the line has its answer. The seat may have stopped.
+    pub fn land(
         &mut self,
         seats: &[Seat<V>],
         lines: &mut [Line<V>],
         seat: usize,
         provider: usize,
     ) -> Result<(), Refusal>
-    where
-        B: Bank<V>,
         ensures step { (relay_means V.Kind.code B.Bank.row self.new seats.now lines.new, acknowledged result) ≡ relay_step (relay_means V.Kind.code B.Bank.row self.old seats.now lines.old) (land_call seat provider) }
-        ensures beyond { drop (self.old.inner.seats * size_of (B.Bank.row self.old.bank)) lines.new ≡ drop (self.old.inner.seats * size_of (B.Bank.row self.old.bank)) lines.old }
-        ensures refusal { is_err result ≡ true → lines.new ≡ lines.old }
-        ensures bank { is_err result ≡ true → self.new.bank ≡ self.old.bank }
-        ensures inner { self.new.inner ≡ self.old.inner }
+        ensures beyond { drop ((inner_of self.old).seats * length (B.Bank.row (bank_of self.old))) lines.new ≡ drop ((inner_of self.old).seats * length (B.Bank.row (bank_of self.old))) lines.old }
+        ensures refusal { is_err result ≡ true → (lines.new ≡ lines.old) × (bank_of self.new ≡ bank_of self.old) }
+        ensures bank { BankStep B.Bank.puts B.Bank.removes (relay_means V.Kind.code B.Bank.row self.old seats.now lines.old) (land_call seat provider) (bank_of self.old) (bank_of self.new) }
+        ensures inner { inner_of self.new ≡ inner_of self.old }
     {
-        let at = self.find::<V>(seats.len(), lines.len(), seat, provider)?;
+        let at = self.find(seats.len(), lines.len(), seat, provider)?;
         self.land_line(&mut lines[at.seat.start + at.provider], at.provider)
     }
 
     // A line's request is carried out at the provider of place i, and the line has its answer.
-    fn land_line<V: Kind>(&mut self, line: &mut Line<V>, i: usize) -> Result<(), Refusal>
-    where
-        B: Bank<V>,
-        requires { i < size_of (B.Bank.row self.old.bank) }
-        ensures landed { Landed i (lost_flags self.old.inner) (B.Bank.row self.old.bank) (line_means V.Kind.code line.old) (acknowledged result) (B.Bank.row self.new.bank) (line_means V.Kind.code line.new) }
-        ensures refusal { is_err result ≡ true → line.new ≡ line.old }
-        ensures bank { is_err result ≡ true → self.new.bank ≡ self.old.bank }
-        ensures inner { self.new.inner ≡ self.old.inner }
+    fn land_line(&mut self, line: &mut Line<V>, i: usize) -> Result<(), Refusal>
+        requires accepted { is_none (inner_of self.old).refused ≡ true }
+        requires provider { i < length (B.Bank.row (bank_of self.old)) }
+        ensures landed { Landed i (lost_flags (inner_of self.old)) (B.Bank.row (bank_of self.old)) (line_means V.Kind.code line.old) (acknowledged result) (B.Bank.row (bank_of self.new)) (line_means V.Kind.code line.new) }
+        ensures refusal { is_err result ≡ true → (line.new ≡ line.old) × (bank_of self.new ≡ bank_of self.old) }
+        ensures bank { Lands B.Bank.puts B.Bank.removes (i + 1) (line_means V.Kind.code line.old).state (slice_index_or (B.Bank.row (bank_of self.old)) i absent) (acknowledged result) (bank_of self.old) (bank_of self.new) }
+        ensures inner { inner_of self.new ≡ inner_of self.old }
     {
         if self.inner.is_lost(i) {
             return Err(Refusal::ProviderLost);
@@ -90,7 +92,7 @@ impl<B> Relay<B> {
         match transit {
             Transit::Free | Transit::Answered { .. } => Err(Refusal::LineNotSent),
             Transit::Sent { stale, request } => {
-                let answer = ask::<V, B>(&mut self.bank, i + 1, request)?;
+                let answer = ask::<V, B>(&mut self.bank, i + 1, request);
                 *line = line.answered(stale, answer);
                 Ok(())
             }

@@ -2,8 +2,8 @@
 ghost use Rattle.std.specs.Prelude.{◌≡◌, ◌-◌, ◌*◌, ◌≤◌, true, length, drop, is_err, replicate, OnOk, slice_index_or};
 ghost use Rattle.values.specs.Refusals.{numbered};
 ghost use Rattle.banks.specs.Row.{has, absent, size_of};
-ghost use Rattle.relay.specs.Opening.{suits, is_empty, first_are, open_check, opened};
-ghost use Rattle.relay.specs.RelayState.{relay_state};
+ghost use Rattle.relay.specs.Opening.{suits, is_empty, first_are, open_check, opened, FirstBlank};
+ghost use Rattle.relay.specs.RelayState.{relay_means, bank_of};
 ghost use Rattle.relay.specs.Sheets.{seats_mean, lines_mean};
 
 use crate::inner::Inner;
@@ -11,6 +11,7 @@ use crate::relay::Relay;
 use banks::bank::Bank;
 use records::line::Line;
 use records::seat::Seat;
+use std::marker::PhantomData;
 use values::kind::Kind;
 use values::refusal::Refusal;
 
@@ -82,10 +83,11 @@ pub fn open<V: Kind, B: Bank<V>>(
     m: usize,
     seats: &mut [Seat<V>],
     lines: &mut [Line<V>],
-) -> (Relay<B>, Result<(), Refusal>)
+) -> (Relay<V, B>, Result<(), Refusal>)
     ensures answer { numbered result.1 ≡ open_check m (B.Bank.row bank) (length seats.old) (length lines.old) }
-    ensures bank { result.0.bank ≡ bank }
-    ensures state { relay_state V.Kind.code (B.Bank.row bank) result.0.inner seats.new lines.new ≡ opened (open_check m (B.Bank.row bank) (length seats.old) (length lines.old)) m (V.Kind.code V.Kind.nothing) (B.Bank.row bank) (seats_mean V.Kind.code seats.old) (lines_mean V.Kind.code lines.old) }
+    ensures bank { bank_of result.0 ≡ bank }
+    ensures state { relay_means V.Kind.code B.Bank.row result.0 seats.new lines.new ≡ opened (open_check m (B.Bank.row bank) (length seats.old) (length lines.old)) m (V.Kind.code V.Kind.nothing) (B.Bank.row bank) (seats_mean V.Kind.code seats.old) (lines_mean V.Kind.code lines.old) }
+    ensures cleared { OnOk result.1 (FirstBlank V.Kind.nothing m (m * size_of (B.Bank.row bank)) seats.new lines.new) }
     ensures beyond { (drop m seats.new ≡ drop m seats.old) × (drop (m * size_of (B.Bank.row bank)) lines.new ≡ drop (m * size_of (B.Bank.row bank)) lines.old) }
     ensures refusal { is_err result.1 ≡ true → (seats.new ≡ seats.old) × (lines.new ≡ lines.old) }
 {
@@ -96,11 +98,13 @@ pub fn open<V: Kind, B: Bank<V>>(
             seats[..m].fill_with(|| seat);
             lines[..m * bank.size()].fill_with(|| line);
             let inner = Inner::new(None, m as u8);
-            (Relay { bank, inner }, Ok(()))
+            let kind = PhantomData;
+            (Relay { bank, inner, kind }, Ok(()))
         }
         Err(refusal) => {
             let inner = Inner::new(Some(refusal), 0);
-            (Relay { bank, inner }, Err(refusal))
+            let kind = PhantomData;
+            (Relay { bank, inner, kind }, Err(refusal))
         }
     }
 }

@@ -29,7 +29,7 @@ const HOLD: Hold = Hold::Held {
 
 // A line's request is sent, arrives, and its answer is taken.
 fn round<B: Bank<Hold>>(
-    relay: &mut Relay<B>,
+    relay: &mut Relay<Hold, B>,
     seats: &mut [Seat<Hold>],
     lines: &mut [Line<Hold>],
     seat: usize,
@@ -42,7 +42,7 @@ fn round<B: Bank<Hold>>(
 
 // So many rounds at a provider, and the answer of the last.
 fn rounds<B: Bank<Hold>>(
-    relay: &mut Relay<B>,
+    relay: &mut Relay<Hold, B>,
     seats: &mut [Seat<Hold>],
     lines: &mut [Line<Hold>],
     seat: usize,
@@ -63,7 +63,7 @@ fn wrote(number: u32, seat: u16) -> Answer<Hold> {
 
 // A write of a seat of a relay of one provider.
 fn write<B: Bank<Hold>>(
-    relay: &mut Relay<B>,
+    relay: &mut Relay<Hold, B>,
     seats: &mut [Seat<Hold>],
     lines: &mut [Line<Hold>],
     seat: usize,
@@ -88,7 +88,7 @@ fn check_one<B: Bank<Hold> + Drop>(rt: &impl Abort, bank: B) -> Result<(), Fail>
 // is above that, so it looks a second time. The refused call that follows leaves the count.
 fn check_look<B: Bank<Hold> + Drop>(
     rt: &impl Abort,
-    relay: Relay<B>,
+    relay: Relay<Hold, B>,
     seats: [Seat<Hold>; 1],
     lines: [Line<Hold>; 1],
 ) -> Result<(), Fail> {
@@ -130,7 +130,7 @@ fn seat_16_of_16_writes(rt: HostRuntime) -> Result<(), Fail> {
 
 // So many rounds of seat 1 at each of providers 1, 3, 4 and 5, and the answer of the last.
 fn at_four<B: Bank<Hold>>(
-    relay: &mut Relay<B>,
+    relay: &mut Relay<Hold, B>,
     seats: &mut [Seat<Hold>],
     lines: &mut [Line<Hold>],
     count: usize,

@@ -33,7 +33,7 @@ pub(crate) fn hold(seat: u16) -> Hold {
 
 // Seat 2 writes at providers 1 and 2; then these calls are made.
 pub(crate) fn prepare<B: Bank<Hold>>(
-    relay: &mut Relay<B>,
+    relay: &mut Relay<Hold, B>,
     seats: &mut [Seat<Hold>],
     lines: &mut [Line<Hold>],
     calls: &[Call<Hold>],

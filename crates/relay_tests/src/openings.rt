@@ -30,7 +30,7 @@ const BUSY: Seat<Hold> = Seat {
 // Every call that is handed sheets is refused by this.
 fn check_refuses<B: Bank<Hold>>(
     rt: &impl Abort,
-    relay: &mut Relay<B>,
+    relay: &mut Relay<Hold, B>,
     seats: &mut [Seat<Hold>],
     lines: &mut [Line<Hold>],
     refusal: Refusal,

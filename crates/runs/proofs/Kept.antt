@@ -1,12 +1,10 @@
 -- What a call leaves of a relay: the number of seats, the number of providers, and the refusal of its open.
-use Rattle.std.proofs.Common.{◌≡◌, ℕ, suc, ◌-◌, Bool, true, false, not, ◌&&◌, ◌||◌, List, length, set, is_some, is_err, Some, None, Ok, Err, Option, Result, refl, ap, ◌∙◌, subst₂, arith}
+use Rattle.std.proofs.Common.{◌≡◌, ℕ, suc, ◌-◌, Bool, true, false, not, ◌||◌, List, length, set, is_some, is_err, Some, None, Ok, Err, Option, Result, refl, ap, ◌∙◌, subst₂, arith}
 use Rattle.std.specs.Option.{option_map}
 use Rattle.std.proofs.lemmas.List.{length-set}
-use Rattle.std.proofs.lemmas.Bool.{cond_both}
 use Rattle.values.specs.Refusals.{refusal_number}
 use Rattle.values.specs.declared.refusal.Refusal.{Refusal}
 use Rattle.stores.specs.Provider.{Provider}
-use Rattle.banks.specs.Row.{size_of}
 use Rattle.protocol.specs.Answers.{Call, begin_write, begin_read, post, land, fetch, stop, lose, Answer, ok, on, refused}
 use Rattle.protocol.specs.Lines.{LineState, free, sent, answered, is_free, Progress}
 use Rattle.protocol.specs.Moves.{advance}
@@ -15,17 +13,17 @@ use Rattle.protocol.specs.Requests.{served}
 use Rattle.protocol.specs.Seats.{Activity, listing, gathering, activity, is_idle, is_stopped, stopped, turned_to}
 use Rattle.protocol.specs.Stages.{foreign}
 use Rattle.protocol.specs.State.{State, seat_at, line_at, provider_at, lost_at, with_line, turn}
-use Rattle.protocol.specs.Steps.{check, outside, begin_step, post_line, post_step, land_line, looks_after, freed, conclude, unless_full, take_answer, fetch_line}
+use Rattle.protocol.specs.Steps.{check, outside, begin_step, post_line, post_step, land_line, looks_after, freed, conclude, unless_full, take_answer, fetch_line, step}
 use Rattle.records.specs.Means.{told}
 use Rattle.records.specs.declared.answer.Answer.{Answer as Said}
 use Rattle.records.specs.declared.answer.Answer.TheVariants as said
 use Rattle.records.specs.declared.line.Line.{Line}
 use Rattle.records.specs.declared.seat.Seat.{Seat}
 use Rattle.relay.specs.Effects.{BeyondAll}
-use Rattle.relay.specs.RelayState.{RelayState, admission, admitted, is_ok_answer, overlong, unless_overlong, relay_call, relay_step}
+use Rattle.relay.specs.RelayState.{RelayState, admission, admitted, relay_step}
 
 pub seats_kept : (R : RelayState) (c : Call) → (relay_step R c).0.seat_count ≡ R.seat_count
-seats_kept R c = by (admission R.refusal R.seat_count (size_of R.state.row) (length R.state.seats) (length R.state.lines))
+seats_kept R c = by (admission R.refusal R.seat_count (length R.state.row) (length R.state.seats) (length R.state.lines))
   where
     by : (A : Result ℕ ℕ) → (admitted A c R).0.seat_count ≡ R.seat_count
     by (Ok n) = refl
@@ -60,9 +58,6 @@ module _ (C : State) where
       let D = freed n s i (advance a r p) (looks_after C.looks p (advance a r p)) C in
       checked (foreign a (record { state = answered false r; progress = p })) 14 (take_answer n s i a r p C) (concluded n s (unless_full r (phase_result n (suc s) (line_at n D.lines s) a)) D refl)
 
-  guarded : (b : Bool) (y : State × Answer) → AsMany y → AsMany (unless_overlong b C y)
-  guarded b y h = cond_both (b && is_ok_answer y.1) (C, refused 16) y AsMany (λ _. same (C, refused 16) refl) (λ _. h)
-
   module _ (m n s : ℕ) where
     begun : (a : Activity) → AsMany (begin_step m n s a C)
     begun a = let q = activity (seat_at C (s - 1)) in checked (outside s m) 5 _ (checked (is_stopped q) 7 _ (checked (not (is_idle q)) 8 _ (same (turn n (s - 1) a C, ok) refl)))
@@ -73,13 +68,13 @@ module _ (C : State) where
         let l = line_at n C.lines (s - 1) (i - 1) in
         checked (outside s m) 5 _ (checked (outside i n) 6 _ (checked (is_stopped q) 7 _ (checked (is_idle q || foreign q l) 9 _ (checked l.progress.done 10 _ (checked (not (is_free l.state)) 11 _ (same (with_line n C (s - 1) (i - 1) (post_line q l), ok) refl))))))
 
-  called : (m n : ℕ) (c : Call) → AsMany (relay_call m n C c)
+  called : (m n : ℕ) (c : Call) → AsMany (step m n C c)
   called m n (begin_write s x) = begun m n s (listing x)
   called m n (begin_read s b) = begun m n s (gathering b)
   called m n (post s i) = posted m n s i
   called m n (land s i) =
       let l = line_at n C.lines (s - 1) (i - 1) in
-      guarded (overlong n (s - 1) (i - 1) C) _ (checked (outside s m) 5 _ (checked (outside i n) 6 _ (checked (lost_at C (i - 1)) 12 _ (landed n (s - 1) (i - 1) (provider_at C (i - 1)) l.progress l.state))))
+      checked (outside s m) 5 _ (checked (outside i n) 6 _ (checked (lost_at C (i - 1)) 12 _ (landed n (s - 1) (i - 1) (provider_at C (i - 1)) l.progress l.state)))
   called m n (fetch s i) =
       let q = activity (seat_at C (s - 1)) in
       let l = line_at n C.lines (s - 1) (i - 1) in
@@ -88,7 +83,7 @@ module _ (C : State) where
   called m n (lose i) = checked (outside i n) 6 _ (checked (lost_at C (i - 1)) 12 _ (same (record { seats = C.seats; lines = C.lines; row = C.row; lost = set C.lost (i - 1) true; looks = C.looks }, ok) refl))
 
 pub providers_kept : (R : RelayState) (c : Call) → length (relay_step R c).0.state.row ≡ length R.state.row
-providers_kept R c = by (admission R.refusal R.seat_count (size_of R.state.row) (length R.state.seats) (length R.state.lines))
+providers_kept R c = by (admission R.refusal R.seat_count (length R.state.row) (length R.state.seats) (length R.state.lines))
   where
     by : (A : Result ℕ ℕ) → length (admitted A c R).0.state.row ≡ length R.state.row
     by (Ok n) = (called R.state R.seat_count n c).many
@@ -98,7 +93,7 @@ providers_kept R c = by (admission R.refusal R.seat_count (size_of R.state.row) 
 pub refuses : {V : Type 0} (code : V → List ℕ) (R X : RelayState) (o : Option Refusal) (r : Result (Said V) Refusal) (c : Call) → R.refusal ≡ option_map refusal_number o → is_some o ≡ true → ◌≡◌ {A = RelayState × Answer} (X, told code r) (relay_step R c) → is_err r ≡ true
 refuses {V} code R X None r c is some step = absurd (let z : ◌≡◌ {A = ℕ} 0 1 = cc in omega arith)
 refuses {V} code R X (Some e) r c is some step =
-    by r (ap (λ (z : RelayState × Answer). z.1) step ∙ ap (λ o. (admitted (admission o R.seat_count (size_of R.state.row) (length R.state.seats) (length R.state.lines)) c R).1) is)
+    by r (ap (λ (z : RelayState × Answer). z.1) step ∙ ap (λ o. (admitted (admission o R.seat_count (length R.state.row) (length R.state.seats) (length R.state.lines)) c R).1) is)
   where
     by : (r : Result (Said V) Refusal) → told code r ≡ refused (refusal_number e) → is_err r ≡ true
     by (Err x) eq = refl

@@ -1,10 +1,10 @@
 -- What an accepted open hands over meets the premise of the law.
-use Rattle.std.proofs.Common.{◌≡◌, ℕ, zero, suc, ◌+◌, ◌-◌, ◌*◌, ◌^◌, ◌<◌, ◌≤◌, Bool, true, false, cond, not, ◌&&◌, ◌||◌, ltb, leb, List, length, get_or, set, is_some, is_ok, is_err, Some, None, Ok, Err, Option, Result, sym, refl, ap, ◌∙◌, ⊎_elim, arith, get_or-set_other, get_or-set_same}
-use native.Mathlib.Nat.{min-eq_left, min-eq_right}
+use Rattle.std.proofs.Common.{◌≡◌, ℕ, zero, suc, ◌+◌, ◌*◌, ◌<◌, ◌≤◌, true, leb, List, length, get_or, set, is_some, is_ok, is_err, Some, None, Ok, Err, Option, Result, sym, refl, ap, ◌∙◌, ⊎_elim, arith, get_or-set_other, get_or-set_same}
 use Rattle.std.specs.Option.{option_map}
+use Rattle.std.specs.Result.{OnOk}
 use Rattle.std.proofs.ByRecursion.{All-from_get_or}
 use Rattle.std.proofs.lemmas.List.{length-set, nil_from_length}
-use Rattle.std.proofs.lemmas.Bool.{and_parts, or_parts, not-false, leb-true, ltb-false, eqb-true, cases_lt, cases_eq, true≢false}
+use Rattle.std.proofs.lemmas.Bool.{and_parts, leb-true, eqb-true, cases_eq, true≢false}
 use Rattle.values.specs.Refusals.{refusal_number, numbered}
 use Rattle.values.specs.declared.refusal.Refusal.{Refusal}
 use Rattle.stores.specs.Provider.{Provider}
@@ -12,52 +12,8 @@ use Rattle.banks.specs.Row.{absent, size_of}
 use Rattle.protocol.specs.Law.{Opened}
 use Rattle.protocol.specs.Lines as lin
 use Rattle.protocol.specs.Seats as sea
-use Rattle.protocol.specs.Steps.{outside}
-use Rattle.relay.specs.Opening.{suits, is_empty, first_are, open_check, cleared, fresh_seat, opened}
-
--- a row of few providers is as long as its size
-pub few_sized : (row : List Provider) → size_of row ≤ 7 → size_of row ≡ length row
-few_sized row le = ⊎_elim (λ l. absurd (omega (arith, le, min-eq_right {n = 2 ^ 64 - 1} {m = length row} (omega arith)))) (λ l. min-eq_left l) (cases_lt (2 ^ 64 - 1) (length row))
-
--- the checks of an open that was accepted
-pub record Passed (m : ℕ) (row : List Provider) (seats lines : ℕ) : Type 0 where
-  pub some_seat : 1 ≤ m
-  pub few_seats : m ≤ 16
-  pub few : size_of row ≤ 7
-  pub seats_fit : m ≤ seats
-  pub lines_fit : m * size_of row ≤ lines
-  pub suitable : first_are (suits m) row (size_of row) ≡ true
-  pub unused : first_are is_empty row (size_of row) ≡ true
-
-pub passed : (m : ℕ) (row : List Provider) (seats lines : ℕ) → open_check m row seats lines ≡ Ok tt → Passed m row seats lines
-passed m row seats lines eq =
-    let f = by (outside m 16 || ltb 7 (size_of row)) (ltb seats m || ltb lines (m * size_of row)) (not (first_are (suits m) row (size_of row))) (not (first_are is_empty row (size_of row))) eq in
-    let one = or_parts (outside m 16) (ltb 7 (size_of row)) f.0 in
-    let two = or_parts (ltb seats m) (ltb lines (m * size_of row)) f.1 in
-    let range = and_parts (leb 1 m) (leb m 16) (not-false (leb 1 m && leb m 16) one.0) in
-    record {
-      some_seat = leb-true 1 m range.0;
-      few_seats = leb-true m 16 range.1;
-      few = ltb-false 7 (size_of row) one.1;
-      seats_fit = ltb-false seats m two.0;
-      lines_fit = ltb-false lines (m * size_of row) two.1;
-      suitable = not-false (first_are (suits m) row (size_of row)) f.2;
-      unused = not-false (first_are is_empty row (size_of row)) f.3;
-    }
-  where
-    by : (a b c d : Bool) → ◌≡◌ {A = Result (Unit {0}) ℕ} (cond a (Err 1) (cond b (Err 2) (cond c (Err 3) (cond d (Err 4) (Ok tt))))) (Ok tt) → (a ≡ false) × (b ≡ false) × (c ≡ false) × (d ≡ false)
-    by true b c d e = absurd (let z : ◌≡◌ {A = ℕ} 0 1 = cc in omega arith)
-    by false true c d e = absurd (let z : ◌≡◌ {A = ℕ} 0 1 = cc in omega arith)
-    by false false true d e = absurd (let z : ◌≡◌ {A = ℕ} 0 1 = cc in omega arith)
-    by false false false true e = absurd (let z : ◌≡◌ {A = ℕ} 0 1 = cc in omega arith)
-    by false false false false e = (refl, refl, refl, refl)
-
--- each of the first k providers is such a one
-each_such : (such : Provider → Bool) (row : List Provider) (k i : ℕ) → first_are such row k ≡ true → i < k → such (get_or row i absent) ≡ true
-each_such such row zero i t lt = absurd (omega arith)
-each_such such row (suc k) i t lt =
-    let h = and_parts (first_are such row k) (such (get_or row k absent)) t in
-    ⊎_elim (λ e. ap (λ j. such (get_or row j absent)) e ∙ h.1) (λ ne. each_such such row k i h.0 (omega (arith, ne))) (cases_eq i k)
+use Rattle.relay.specs.Opening.{suits, is_empty, cleared, fresh_seat, opened}
+use Rattle.relay.proofs.Openings.{Passed, few_sized, each_such}
 
 -- a place that was cleared, and how many places there are
 pub length_cleared : {X : Type 0} (x : X) (k : ℕ) (l : List X) → length (cleared x k l) ≡ length l
@@ -111,3 +67,8 @@ module _ (m : ℕ) (nothing : List ℕ) (row : List Provider) (seats : List sea.
 pub either_way : {P : Type 0} (a : Result (Unit {0}) Refusal) → (is_ok a ≡ true → P) → (is_err a ≡ true → P) → P
 either_way (Ok u) f g = f refl
 either_way (Err x) f g = g refl
+
+-- what holds once an answer is known to be accepted
+pub if_accepted : (a : Result (Unit {0}) Refusal) (P : Type 0) → (is_ok a ≡ true → P) → OnOk a P
+if_accepted (Ok u) P f = f refl
+if_accepted (Err x) P f = tt

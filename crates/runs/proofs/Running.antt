@@ -1,9 +1,11 @@
 -- One more call of a list, and the last one.
-use Rattle.std.proofs.Common.{◌≡◌, ℕ, ◌+◌, ◌<◌, ◌≤◌, List, [], ◌∷◌, ◌++◌, map, length, get_or, take, drop, set, sym, ap, ◌∙◌}
+use Rattle.std.proofs.Common.{◌≡◌, ℕ, ◌+◌, ◌<◌, ◌≤◌, List, [], ◌∷◌, ◌++◌, map, length, get_or, take, drop, set, sym, refl, ap, ◌∙◌, subst}
 use Rattle.std.proofs.lemmas.List.{take_more_set, drop_more, drop_all, take_all, map_push, append_assoc, append-nil}
+use Rattle.stores.specs.Provider.{Cell}
 use Rattle.protocol.specs.Answers.{Call, Answer}
+use Rattle.relay.specs.BankSteps.{BankStep}
 use Rattle.relay.specs.RelayState.{RelayState, relay_step}
-use Rattle.runs.specs.Runs.{run_answers, run_end}
+use Rattle.runs.specs.Runs.{run_answers, run_end, BankSteps}
 
 -- f and t say what calls and answers mean; the calls are ps, and of the answers os the first i are written.
 module _ {X Y : Type 0} (f : X → Call) (t : Y → Answer) (ps : List X) (os : List Y) (i : ℕ) where
@@ -28,3 +30,13 @@ module _ {X Y : Type 0} (f : X → Call) (t : Y → Answer) (ps : List X) (os : 
 
   pub end_all : (E R : RelayState) → length ps ≤ i → run_end R (map f (drop i ps)) ≡ E → R ≡ E
   end_all E R lp inv = ap (λ xs. run_end R (map f xs)) (sym (drop_all i ps lp)) ∙ inv
+
+  -- what the calls make of the bank: one more, and none
+  module _ {B : Type 0} (puts : B → ℕ → Cell → B → Type 0) (removes : B → ℕ → ℕ → B → Type 0) where
+    pub bank_more : (R S : RelayState) (p : X) (a : Answer) (x next last : B) → i < length ps → p ≡ get_or ps i p → ◌≡◌ {A = RelayState × Answer} (S, a) (relay_step R (f p)) → BankStep puts removes R (f p) x next → BankSteps puts removes S (map f (drop (i + 1) ps)) next last → BankSteps puts removes R (map f (drop i ps)) x last
+    bank_more R S p a x next last lp is step here h =
+        subst (λ l. BankSteps puts removes R (map f l) x last) (sym (ahead p lp is))
+        (next, (here, subst (λ (z : RelayState × Answer). BankSteps puts removes z.0 (map f (drop (i + 1) ps)) next last) step h))
+
+    pub bank_all : (R : RelayState) (x : B) → length ps ≤ i → BankSteps puts removes R (map f (drop i ps)) x x
+    bank_all R x lp = subst (λ l. BankSteps puts removes R (map f l) x x) (sym (drop_all i ps lp)) refl

@@ -2,15 +2,15 @@ use Rattle.std.proofs.Common.{◌≡◌, ◌*◌, true, length, drop, is_ok, is_
 use Rattle.std.proofs.lemmas.List.{length-map}
 use Rattle.values.specs.Refusals.{numbered}
 use Rattle.banks.specs.Row.{size_of}
-use Rattle.protocol.specs.Law.{Lawful}
 use Rattle.records.specs.Means.{line_means, seat_means}
 use Rattle.relay.specs.Opening.{open_check, opened}
 use Rattle.relay.specs.RelayState.{RelayState, relay_state}
 use Rattle.relay.specs.Sheets.{seats_mean, lines_mean}
-use Rattle.runs.specs.Runs.{calls_mean, run_answers, run_end}
+use Rattle.runs.specs.Runs.{calls_mean, run_answers, run_end, BankSteps, AlwaysLawful}
+use Rattle.relay.proofs.Openings.{passed, few_sized}
 use Rattle.runs.proofs.Kept.{further}
-use Rattle.runs.proofs.Openings.{was_accepted, keeps_refusal, has_seats, either_way}
-use Rattle.runs.proofs.LawfulRuns.{lawful_run}
+use Rattle.runs.proofs.Openings.{was_accepted, keeps_refusal, has_seats, either_way, if_accepted}
+use Rattle.runs.proofs.LawfulRuns.{lawful_runs}
 use Rattle.runs.proofs.run.run.Goals as goal
 
 pub returns : goal.returns
@@ -27,7 +27,7 @@ returns g c =
     let o = c.open-relay.ensures in
     let h = c.make_calls.ensures in
     let start : relay_state code (g.B.Bank.row relay.bank) relay.inner c.open-relay.new.seats c.open-relay.new.lines ≡ opened (numbered a) m nothing row seats lines =
-    ap (λ b. relay_state code (g.B.Bank.row b) relay.inner c.open-relay.new.seats c.open-relay.new.lines) o.bank ∙ (o.state ∙ ap (λ x. opened x m nothing row seats lines) (sym o.answer)) in
+    o.state ∙ ap (λ x. opened x m nothing row seats lines) (sym o.answer) in
     let answers = h.answers ∙ ap (λ R. run_answers R calls) start in
     let ended = h.ended ∙ ap (λ R. run_end R calls) start in
     let refusal : is_err a ≡ true → (c.make_calls.new.seats ≡ c.args.seats.now) × (c.make_calls.new.lines ≡ c.args.lines.now) × (c.make_calls.new.relay.bank ≡ c.args.bank) = λ e.
@@ -42,11 +42,12 @@ returns g c =
       answers = answers;
       ended = ended;
       beyond = either_way a
-          (λ e. further _ _ m (size_of row) _ _ _ _ _ _ (ap (λ (R : RelayState). R.seat_count) start ∙ has_seats m nothing row seats lines a e) (ap (λ b. size_of (g.B.Bank.row b)) o.bank) (record { seats = o.beyond.0; lines = o.beyond.1 }) h.beyond)
+          (λ e. further _ _ m (size_of row) _ _ _ _ _ _ (ap (λ (R : RelayState). R.seat_count) start ∙ has_seats m nothing row seats lines a e) (ap (λ b. length (g.B.Bank.row b)) o.bank ∙ sym (few_sized row (passed m row (length seats) (length lines) (checked e)).few)) (record { seats = o.beyond.0; lines = o.beyond.1 }) h.beyond)
           (λ e. let same = refusal e in record { seats = ap (drop m) same.0; lines = ap (drop (m * size_of row)) same.1 });
       refusal = refusal;
-      lawful = λ e. subst₂ (λ said end. Lawful m (length row) calls said end)
+      bank = subst₂ (λ R b. BankSteps g.B.Bank.puts g.B.Bank.removes R calls b c.make_calls.new.relay.bank) start o.bank h.bank;
+      lawful = if_accepted a _ (λ e. subst₂ (λ x said. AlwaysLawful m (length row) (opened x m nothing row seats lines) calls said)
+          (sym (was_accepted a e))
           (sym (answers ∙ ap (λ x. run_answers (opened x m nothing row seats lines) calls) (was_accepted a e)))
-          (sym (ap (λ (R : RelayState). R.state) (ended ∙ ap (λ x. run_end (opened x m nothing row seats lines) calls) (was_accepted a e))))
-          (lawful_run m row nothing seats lines calls (g.met.B.Bank.some c.args.bank) (checked e));
+          (lawful_runs m row nothing seats lines calls (g.met.B.Bank.some c.args.bank) (checked e)));
     }

@@ -1,11 +1,18 @@
-use Rattle.std.proofs.Common.{true, sym, ap, ◌∙◌}
+use Rattle.std.proofs.Common.{true, is_none, sym, ap, ◌∙◌}
 use Rattle.std.proofs.lemmas.List.{map-set}
+use Rattle.relay.specs.declared.inner.Inner.{Inner}
 use Rattle.relay.specs.declared.inner.ProviderRecord.{ProviderRecord}
 use Rattle.protocol.specs.Answers as ans
 use Rattle.relay.specs.RelayState.{relay_state}
 use Rattle.relay.specs.Sheets.{acknowledged}
 use Rattle.relay.proofs.RelaySteps.{call_refused, call_made, lose_refused, lose_found, already_lost, now_lost}
 use Rattle.relay.proofs.relay.Relay.lose.Goals as goal
+
+pub invariant_of-self : goal.invariant_of-self
+invariant_of-self g c = record {
+  few = λ none. c.args.self.now.few (ap (λ (r : Inner). is_none r.refused) (sym c.lose.ensures) ∙ none);
+  fits = λ none. c.args.self.now.fits (ap (λ (r : Inner). is_none r.refused) (sym c.lose.ensures) ∙ none);
+}
 
 pub returns-in_err-i-clause-step : goal.returns-in_err-i-clause-step
 returns-in_err-i-clause-step g c =

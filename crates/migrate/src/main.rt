@@ -133,7 +133,8 @@ fn copy_to<S: Store<Secret>, T: Store<Secret>>(
 }
 
 // Puts what a provider holds under these keys into the log. Answers how often the log was packed to make room: a put that
-// needs no packing makes the log longer.
+// needs no packing makes the log longer, and one that packs it leaves it shorter. (Before such a put fewer than 56 bytes are
+// free, and after it there are at most 33 records, of at most 56 bytes each, since every version is its key.)
 fn put_again<S: Store<Secret>>(
     from: &S,
     log: &mut Journal,

@@ -4,7 +4,8 @@
 ghost use Rattle.std.specs.Prelude.{◌≡◌};
 ghost use Rattle.values.specs.Rank.{rank};
 ghost use Rattle.stores.specs.Operations.{remove_after};
-ghost use Rattle.banks.specs.Whole.{all_after, total_keys};
+ghost use Rattle.banks.specs.Row.{size_of};
+ghost use Rattle.banks.specs.Whole.{all_after, total_keys, RemoveEach};
 
 use crate::bank::Bank;
 use values::kind::Kind;
@@ -21,9 +22,10 @@ pub fn total_count<V: Kind, B: Bank<V>>(bank: &B) -> usize
     total
 }
 
-// Takes a key out at every provider.
+// Takes a key out at every provider, once at each.
 pub fn remove_everywhere<V: Kind, B: Bank<V>>(bank: &mut B, key: Key)
-    ensures { B.Bank.row bank.new ≡ all_after (B.Bank.row bank.old) (remove_after (rank key)) }
+    ensures after { B.Bank.row bank.new ≡ all_after (B.Bank.row bank.old) (remove_after (rank key)) }
+    ensures once { RemoveEach B.Bank.removes (rank key) (size_of (B.Bank.row bank.old)) bank.old bank.new }
 {
     for place in 0..bank.size() {
         let _ = bank.remove(place + 1, key);

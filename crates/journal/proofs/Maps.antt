@@ -1,11 +1,11 @@
 -- Maps in ascending order of their keys are equal where every key has the same cell.
 use Rattle.std.proofs.Common.{◌≡◌, ℕ, suc, ◌+◌, ◌<◌, ◌≤◌, true, false, cond, eqb, ltb, List, [], ◌∷◌, map, length, is_some, Some, None, Option, sym, refl, ap, ◌∙◌, ⊎_elim, arith}
-use Rattle.std.proofs.lemmas.Bool.{cases_Bool, both_ways, cond-true, cond-false, cond_both, and_parts, eqb-true, eq-eqb, ltb-true, ltb-false, lt-ltb}
+use Rattle.std.proofs.lemmas.Bool.{cases_Bool, both_ways, cond_both, and_parts, eqb-true, ltb-true, ltb-false, lt-ltb}
 use Rattle.std.proofs.lemmas.Bool.Decides.{nat_tests}
 use Rattle.std.proofs.lemmas.Option.{none-some}
 use Rattle.stores.specs.Keyed.{headed, ascending, element_of, put, without}
 use Rattle.stores.specs.Provider.{Cell, cell_key}
-use Rattle.stores.proofs.KeyedLists.{find_below, without_absent, length_put}
+use Rattle.stores.proofs.KeyedLists.{find_hit, find_past, find_below, without_absent, length_put}
 
 abbrev pub ranks : List Cell → List ℕ
 ranks m = map cell_key m
@@ -13,43 +13,6 @@ ranks m = map cell_key m
 pub none_is : (o : Option Cell) → is_some o ≡ false → o ≡ None
 none_is None h = refl
 none_is (Some x) h = absurd (both_ways true h refl)
-
-find_hit : (k : ℕ) (c : Cell) (cs : List Cell) → c.key ≡ k → element_of cell_key k (c ∷ cs) ≡ Some c
-find_hit k c cs e = cond-true (eqb c.key k) (Some c) (element_of cell_key k cs) (eq-eqb c.key k e)
-
-find_past : (k : ℕ) (c : Cell) (cs : List Cell) → eqb c.key k ≡ false → element_of cell_key k (c ∷ cs) ≡ element_of cell_key k cs
-find_past k c cs e = cond-false (eqb c.key k) (Some c) (element_of cell_key k cs) e
-
-pub find_put : (k : ℕ) (n : Cell) (m : List Cell) → element_of cell_key k (put cell_key n m) ≡ cond (eqb n.key k) (Some n) (element_of cell_key k m)
-find_put k n [] = refl
-find_put k n (c ∷ cs) =
-    cond_both (ltb c.key n.key) (c ∷ put cell_key n cs) (n ∷ cond (eqb c.key n.key) cs (c ∷ cs)) (λ m. element_of cell_key k m ≡ cond (eqb n.key k) (Some n) (element_of cell_key k (c ∷ cs)))
-    (λ p.
-    ⊎_elim
-    (λ q.
-    let f : eqb n.key k ≡ false = grind (arith, nat_tests) in
-    let e = eqb-true c.key k q in
-    find_hit k c (put cell_key n cs) e ∙ sym (cond-false (eqb n.key k) (Some n) (element_of cell_key k (c ∷ cs)) f ∙ find_hit k c cs e))
-    (λ q. rw q (find_put k n cs))
-    (cases_Bool (eqb c.key k)))
-    (λ p.
-    cond_both (eqb c.key n.key) cs (c ∷ cs) (λ m. element_of cell_key k (n ∷ m) ≡ cond (eqb n.key k) (Some n) (element_of cell_key k (c ∷ cs)))
-    (λ q. ⊎_elim (λ s. rw s refl) (λ s. let f : eqb c.key k ≡ false = grind (arith, nat_tests) in rw (s, f) refl) (cases_Bool (eqb n.key k)))
-    (λ q. refl))
-
-pub find_without : (k j : ℕ) (m : List Cell) → element_of cell_key k (without cell_key j m) ≡ cond (eqb j k) None (element_of cell_key k m)
-find_without k j [] = cond_both (eqb j k) None None (λ o. None ≡ o) (λ _. refl) (λ _. refl)
-find_without k j (c ∷ cs) =
-    cond_both (eqb c.key j) (without cell_key j cs) (c ∷ without cell_key j cs) (λ m. element_of cell_key k m ≡ cond (eqb j k) None (element_of cell_key k (c ∷ cs)))
-    (λ p. find_without k j cs ∙ ⊎_elim (λ s. rw s refl) (λ s. let f : eqb c.key k ≡ false = grind (arith, nat_tests) in rw (s, f) refl) (cases_Bool (eqb j k)))
-    (λ p.
-    ⊎_elim
-    (λ s.
-    let f : eqb j k ≡ false = grind (arith, nat_tests) in
-    let e = eqb-true c.key k s in
-    find_hit k c (without cell_key j cs) e ∙ sym (cond-false (eqb j k) None (element_of cell_key k (c ∷ cs)) f ∙ find_hit k c cs e))
-    (λ s. rw s (find_without k j cs))
-    (cases_Bool (eqb c.key k)))
 
 -- in order, a key before the first is absent
 before_first : (k : ℕ) (c : Cell) (cs : List Cell) → ascending (ranks (c ∷ cs)) ≡ true → k < c.key → element_of cell_key k (c ∷ cs) ≡ None
@@ -65,26 +28,26 @@ tail_ascends c cs h = (and_parts (headed c.key (ranks cs)) (ascending (ranks cs)
 
 pub same_maps : (m n : List Cell) → ascending (ranks m) ≡ true → ascending (ranks n) ≡ true → ((k : ℕ) → element_of cell_key k m ≡ element_of cell_key k n) → m ≡ n
 same_maps [] [] p q h = refl
-same_maps [] (d ∷ ds) p q h = absurd (none-some d (sym (sym (find_hit d.key d ds refl) ∙ sym (h d.key))))
-same_maps (c ∷ cs) [] p q h = absurd (none-some c (sym (sym (find_hit c.key c cs refl) ∙ h c.key)))
+same_maps [] (d ∷ ds) p q h = absurd (none-some d (sym (sym (find_hit cell_key d.key d ds refl) ∙ sym (h d.key))))
+same_maps (c ∷ cs) [] p q h = absurd (none-some c (sym (sym (find_hit cell_key c.key c cs refl) ∙ h c.key)))
 same_maps (c ∷ cs) (d ∷ ds) p q h =
     ⊎_elim
-    (λ e. absurd (none-some c (sym (sym (find_hit c.key c cs refl) ∙ (h c.key ∙ before_first c.key d ds q (ltb-true c.key d.key e))))))
+    (λ e. absurd (none-some c (sym (sym (find_hit cell_key c.key c cs refl) ∙ (h c.key ∙ before_first c.key d ds q (ltb-true c.key d.key e))))))
     (λ e.
     ⊎_elim
     (λ s.
     let i = eqb-true c.key d.key s in
-    let a : ◌≡◌ {A = Option Cell} (Some c) (Some d) = sym (find_hit d.key c cs i) ∙ (h d.key ∙ find_hit d.key d ds refl) in
+    let a : ◌≡◌ {A = Option Cell} (Some c) (Some d) = sym (find_hit cell_key d.key c cs i) ∙ (h d.key ∙ find_hit cell_key d.key d ds refl) in
     let b : c ≡ d = cc in
     let t : cs ≡ ds = same_maps cs ds (tail_ascends c cs p) (tail_ascends d ds q) (λ k.
     ⊎_elim
     (λ z. absent_after k c cs p (eqb-true c.key k z) ∙ sym (absent_after k d ds q (sym i ∙ eqb-true c.key k z)))
-    (λ z. let z' : eqb d.key k ≡ false = grind (arith, nat_tests) in sym (find_past k c cs z) ∙ (h k ∙ find_past k d ds z'))
+    (λ z. let z' : eqb d.key k ≡ false = grind (arith, nat_tests) in sym (find_past cell_key k c cs z) ∙ (h k ∙ find_past cell_key k d ds z'))
     (cases_Bool (eqb c.key k))) in
     ap (λ x. x ∷ cs) b ∙ ap (λ xs. d ∷ xs) t)
     (λ s.
     let f = ltb-false c.key d.key e in
-    absurd (none-some d (sym (sym (find_hit d.key d ds refl) ∙ (sym (h d.key) ∙ before_first d.key c cs p (grind (arith, nat_tests)))))))
+    absurd (none-some d (sym (sym (find_hit cell_key d.key d ds refl) ∙ (sym (h d.key) ∙ before_first d.key c cs p (grind (arith, nat_tests)))))))
     (cases_Bool (eqb c.key d.key)))
     (cases_Bool (ltb c.key d.key))
 
@@ -94,10 +57,10 @@ pub length_put_new : (n : Cell) (m : List Cell) → element_of cell_key n.key m 
 length_put_new n [] h = refl
 length_put_new n (c ∷ cs) h =
     cond_both (ltb c.key n.key) (c ∷ put cell_key n cs) (n ∷ cond (eqb c.key n.key) cs (c ∷ cs)) (λ m. length m ≡ suc (length (c ∷ cs)))
-    (λ p. ap suc (length_put_new n cs (sym (find_past n.key c cs (grind (arith, nat_tests))) ∙ h)))
+    (λ p. ap suc (length_put_new n cs (sym (find_past cell_key n.key c cs (grind (arith, nat_tests))) ∙ h)))
     (λ p.
     cond_both (eqb c.key n.key) cs (c ∷ cs) (λ m. suc (length m) ≡ suc (length (c ∷ cs)))
-    (λ s. absurd (none-some c (sym (sym (find_hit n.key c cs (eqb-true c.key n.key s)) ∙ h))))
+    (λ s. absurd (none-some c (sym (sym (find_hit cell_key n.key c cs (eqb-true c.key n.key s)) ∙ h))))
     (λ s. refl))
 
 pub length_put_old : (n : Cell) (m : List Cell) → ascending (ranks m) ≡ true → is_some (element_of cell_key n.key m) ≡ true → length (put cell_key n m) ≡ length m
@@ -108,7 +71,7 @@ length_without k [] asc h = absurd (both_ways false refl h)
 length_without k (c ∷ cs) asc h =
     cond_both (eqb c.key k) (without cell_key k cs) (c ∷ without cell_key k cs) (λ m. suc (length m) ≡ length (c ∷ cs))
     (λ s. ap (λ m. suc (length m)) (without_absent cell_key k cs (absent_after k c cs asc (eqb-true c.key k s))))
-    (λ s. ap suc (length_without k cs (tail_ascends c cs asc) (sym (ap is_some (find_past k c cs s)) ∙ h)))
+    (λ s. ap suc (length_without k cs (tail_ascends c cs asc) (sym (ap is_some (find_past cell_key k c cs s)) ∙ h)))
 
 pub some_long : (k : ℕ) (m : List Cell) → is_some (element_of cell_key k m) ≡ true → 1 ≤ length m
 some_long k [] h = absurd (both_ways false refl h)

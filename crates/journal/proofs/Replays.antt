@@ -4,18 +4,19 @@ use Rattle.std.proofs.lemmas.List.{length-append}
 use Rattle.std.proofs.lemmas.Bool.{cases_Bool, or_right, both_ways, cond-true, cond-false, cond_both, and_parts, and_from, eqb-true, eq-eqb}
 use Rattle.stores.specs.Keyed.{element_of, put, without}
 use Rattle.stores.specs.Provider.{Cell, cell_key}
+use Rattle.stores.proofs.KeyedLists.{find_put, find_without}
 use Rattle.journal.specs.Record.{bit_map, record_key, record_cell, is_put, whole}
 use Rattle.journal.specs.Log.{joined, sound, step, replay_on, replay, mentions, live}
 use Rattle.journal.specs.Lawful.{ascends_replay}
 use Rattle.journal.specs.Walk.{seen, look_on, is_live}
 use Rattle.journal.proofs.Sizes.{size_le, whole_size}
-use Rattle.journal.proofs.Maps.{find_put, find_without, same_maps, length_put_new}
+use Rattle.journal.proofs.Maps.{same_maps, length_put_new}
 
 find_step : (k : ℕ) (r : List ℕ) (m : List Cell) → element_of cell_key k (step r m) ≡ cond (eqb (record_key r) k) (seen r) (element_of cell_key k m)
 find_step k r m =
     ⊎_elim
-    (λ p. rw p (find_put k (record_cell r) m))
-    (λ p. rw p (find_without k (record_key r) m))
+    (λ p. rw p (find_put cell_key k (record_cell r) m))
+    (λ p. rw p (find_without cell_key k (record_key r) m))
     (cases_Bool (is_put r))
 
 find_replay_on : (k : ℕ) (m : List Cell) (rs : List (List ℕ)) → element_of cell_key k (replay_on m rs) ≡ look_on (element_of cell_key k m) k rs
@@ -124,7 +125,7 @@ count_on m (r ∷ rs) h =
     (λ u.
     let n : length (put cell_key (record_cell r) m) ≡ suc (length m) = length_put_new (record_cell r) m (h (record_key r) (rw (eq-eqb (record_key r) (record_key r) refl) refl)) in
     let j = count_on (put cell_key (record_cell r) m) rs (λ k t.
-    find_put k (record_cell r) m ∙
+    find_put cell_key k (record_cell r) m ∙
     ⊎_elim
     (λ s. absurd (both_ways (mentions (record_key r) rs) u (subst (λ x. mentions x rs ≡ true) (sym (eqb-true (record_key r) k s)) t)))
     (λ s. rw s (h' k t))

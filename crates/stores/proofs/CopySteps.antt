@@ -1,7 +1,7 @@
 -- One step of a copy: the key at a place of the sheet, what the source holds there, and what the put comes to.
-use Rattle.std.proofs.Common.{◌≡◌, ℕ, suc, ◌+◌, ◌<◌, Bool, true, false, cond, List, [], ◌∷◌, map, length, get_or, drop, is_err, Some, None, Ok, Err, Option, Result, sym, refl, ap, ◌∙◌, arith}
+use Rattle.std.proofs.Common.{◌≡◌, ℕ, suc, ◌+◌, ◌<◌, Bool, true, false, cond, List, [], ◌∷◌, ◌++◌, map, length, get_or, take, drop, is_err, OnOk, OnErr, Some, None, Ok, Err, Option, Result, sym, refl, ap, ◌∙◌, subst, arith}
 use Rattle.std.specs.Option.{option_map}
-use Rattle.std.proofs.lemmas.List.{length-map, get_or-map, drop_more}
+use Rattle.std.proofs.lemmas.List.{length-map, get_or-map, drop_more, take_more}
 use Rattle.std.proofs.lemmas.Bool.{cond-true, cond-false}
 use Rattle.values.specs.Rank.{rank, version_of}
 use Rattle.values.specs.Refusals.{numbered}
@@ -10,7 +10,7 @@ use Rattle.values.specs.declared.version.Version.{Version}
 use Rattle.stores.specs.Keyed.{ascending}
 use Rattle.stores.specs.Provider.{Pair, Cell, Provider, cell_key, keys, cell}
 use Rattle.stores.specs.Operations.{room_for, put_answer, put_after, get_answer, pair_means}
-use Rattle.stores.specs.Copying.{put_count, put_all}
+use Rattle.stores.specs.Copying.{put_count, put_all, PutEach}
 use Rattle.stores.specs.declared.stored.Stored.{Stored}
 use Rattle.stores.proofs.KeyedLists.{find_at}
 
@@ -20,26 +20,46 @@ first = record { number = 0; seat = 0 }
 nowhere : Cell
 nowhere = record { key = 0; pair = record { version = 0; value = [] } }
 
+pub told_room : (b : Bool) → ◌≡◌ {A = Result (Unit {0}) ℕ} (Ok tt) (cond b (Ok tt) (Err 15)) → b ≡ true
+told_room true e = refl
+told_room false e = cc
+
+pub told_full : {n : ℕ} (b : Bool) → ◌≡◌ {A = Result (Unit {0}) ℕ} (Err n) (cond b (Ok tt) (Err 15)) → b ≡ false
+told_full true e = cc
+told_full false e = refl
+
 -- whether a put found room, from its answer
 pub room_of : (c : Cell) (q : Provider) (r : Result (Unit {0}) Refusal) → numbered r ≡ put_answer c q → is_err r ≡ false → room_for c.key q ≡ true
 room_of c q (Ok u) told fine = told_room (room_for c.key q) told
-  where
-    told_room : (b : Bool) → ◌≡◌ {A = Result (Unit {0}) ℕ} (Ok tt) (cond b (Ok tt) (Err 15)) → b ≡ true
-    told_room true e = refl
-    told_room false e = cc
 room_of c q (Err e) told fine = cc
 
 pub full_of : (c : Cell) (q : Provider) (r : Result (Unit {0}) Refusal) → numbered r ≡ put_answer c q → is_err r ≡ true → room_for c.key q ≡ false
 full_of c q (Ok u) told fine = cc
 full_of c q (Err e) told fine = told_full (room_for c.key q) told
-  where
-    told_full : {n : ℕ} (b : Bool) → ◌≡◌ {A = Result (Unit {0}) ℕ} (Err n) (cond b (Ok tt) (Err 15)) → b ≡ false
-    told_full true e = cc
-    told_full false e = refl
 
 -- a put that finds no room leaves the provider as it was
 pub full_after : (c : Cell) (q : Provider) → room_for c.key q ≡ false → put_after c q ≡ q
 full_after c q full = let f : List Cell → Provider = λ cs. record { capacity = q.capacity; cells = cs } in ap f (cond-false (room_for c.key q) _ q.cells full)
+
+-- what a result says where it is no error, and where it is one
+pub of_ok : {T E P : Type 0} (r : Result T E) → is_err r ≡ false → OnOk r P → P
+of_ok (Ok x) e p = p
+of_ok (Err x) e p = cc
+
+pub of_err : {T E P : Type 0} (r : Result T E) → is_err r ≡ true → OnErr r P → P
+of_err (Ok x) e p = cc
+of_err (Err x) e p = p
+
+-- one put more
+put_each_more : {S : Type 0} (puts : S → Cell → S → Type 0) (cs : List Cell) (c : Cell) (before between after : S) → PutEach puts cs before between → puts between c after → PutEach puts (cs ++ c ∷ []) before after
+put_each_more puts [] c before between after h put = (after, subst (λ s. puts s c after) h put, refl)
+put_each_more puts (d ∷ ds) c before between after h put = (h.0, h.1, put_each_more puts ds c h.0 between after h.2 put)
+
+-- the first i cells of p were put
+pub record Copied {T : Type 0} (provider : T → Provider) (puts : T → Cell → T → Type 0) (p : Provider) (i : ℕ) (old now : T) : Type 0 where
+  pub counted : i + put_count (drop i p.cells) (provider now) ≡ put_count p.cells (provider old)
+  pub after : put_all (drop i p.cells) (provider now) ≡ put_all p.cells (provider old)
+  pub once : PutEach puts (take i p.cells) old now
 
 module _ (p : Provider) (listed : List Version) (i : ℕ) (is : listed ≡ map version_of (keys p)) (lt : i < length listed) where
   within : i < length p.cells
@@ -109,3 +129,10 @@ module _ (p : Provider) (listed : List Version) (i : ℕ) (is : listed ≡ map v
           let b : room_for here.key q ≡ false = ap (λ k. room_for k q) (sym rank_here) ∙ full in
           let a : put_all (drop i p.cells) q ≡ q = ap (λ cs. put_all cs q) split ∙ cond-false (room_for here.key q) _ q b in
           after ∙ (full_after (cell (get_or listed i first) s.version (code s.value)) q full ∙ (sym a ∙ inv))
+
+      pub more_once : {T : Type 0} (puts : T → Cell → T → Type 0) (old between now : T) → PutEach puts (take i p.cells) old between → puts between (cell (get_or listed i first) s.version (code s.value)) now → PutEach puts (take (i + 1) p.cells) old now
+      unfolding here
+      more_once puts old between now inv put =
+          let m : take (i + 1) p.cells ≡ take i p.cells ++ get_or p.cells i nowhere ∷ [] = take_more p.cells i nowhere within in
+          let put' = subst (λ c. puts between c now) is_here put in
+          subst (λ cs. PutEach puts cs old now) (sym m) (put_each_more puts (take i p.cells) (get_or p.cells i nowhere) old between now inv put')

@@ -1,7 +1,8 @@
 -- Facts of maps as lists, over any element type.
 use Rattle.std.proofs.Common.{◌≡◌, ℕ, zero, suc, ◌+◌, ◌<◌, ◌≤◌, Bool, true, false, cond, eqb, ltb, List, [], ◌∷◌, map, length, get_or, is_some, Some, None, Option, sym, refl, ap, ◌∙◌, ⊎_elim, arith}
 use Rattle.std.specs.Option.{option_map}
-use Rattle.std.proofs.lemmas.Bool.{cases_Bool, and_parts, and_from, cond-true, cond-false, ltb-true, ltb-false, eqb-true, eqb-false, lt-ltb, ne_eqb, eq-eqb}
+use Rattle.std.proofs.lemmas.Bool.{cases_Bool, cond_both, and_parts, and_from, cond-true, cond-false, ltb-true, ltb-false, eqb-true, eqb-false, lt-ltb, ne_eqb, eq-eqb}
+use Rattle.std.proofs.lemmas.Bool.Decides.{nat_tests}
 use Rattle.stores.specs.Keyed.{headed, ascending, element_of, put, without}
 
 -- a key below the first of an ascending list is below every key of it
@@ -33,6 +34,45 @@ module _ {A : Type 0} (key : A → ℕ) where
       absurd (let o : ◌≡◌ {A = ℕ} 0 1 = cc in omega arith))
       (λ p. cond-false (eqb (key x) (key (get_or xs i d))) (Some x) (element_of key (key (get_or xs i d)) xs) p ∙ ih)
       (cases_Bool (eqb (key x) (key (get_or xs i d))))
+
+  -- what stands under a key after a put and after a remove
+
+  pub find_hit : (k : ℕ) (c : A) (cs : List A) → key c ≡ k → element_of key k (c ∷ cs) ≡ Some c
+  find_hit k c cs e = cond-true (eqb (key c) k) (Some c) (element_of key k cs) (eq-eqb (key c) k e)
+
+  pub find_past : (k : ℕ) (c : A) (cs : List A) → eqb (key c) k ≡ false → element_of key k (c ∷ cs) ≡ element_of key k cs
+  find_past k c cs e = cond-false (eqb (key c) k) (Some c) (element_of key k cs) e
+
+  pub find_put : (k : ℕ) (n : A) (m : List A) → element_of key k (put key n m) ≡ cond (eqb (key n) k) (Some n) (element_of key k m)
+  find_put k n [] = refl
+  find_put k n (c ∷ cs) =
+      cond_both (ltb (key c) (key n)) (c ∷ put key n cs) (n ∷ cond (eqb (key c) (key n)) cs (c ∷ cs)) (λ m. element_of key k m ≡ cond (eqb (key n) k) (Some n) (element_of key k (c ∷ cs)))
+      (λ p.
+      ⊎_elim
+      (λ q.
+      let f : eqb (key n) k ≡ false = grind (arith, nat_tests) in
+      let e = eqb-true (key c) k q in
+      find_hit k c (put key n cs) e ∙ sym (cond-false (eqb (key n) k) (Some n) (element_of key k (c ∷ cs)) f ∙ find_hit k c cs e))
+      (λ q. rw q (find_put k n cs))
+      (cases_Bool (eqb (key c) k)))
+      (λ p.
+      cond_both (eqb (key c) (key n)) cs (c ∷ cs) (λ m. element_of key k (n ∷ m) ≡ cond (eqb (key n) k) (Some n) (element_of key k (c ∷ cs)))
+      (λ q. ⊎_elim (λ s. rw s refl) (λ s. let f : eqb (key c) k ≡ false = grind (arith, nat_tests) in rw (s, f) refl) (cases_Bool (eqb (key n) k)))
+      (λ q. refl))
+
+  pub find_without : (k j : ℕ) (m : List A) → element_of key k (without key j m) ≡ cond (eqb j k) None (element_of key k m)
+  find_without k j [] = cond_both (eqb j k) None None (λ o. None ≡ o) (λ _. refl) (λ _. refl)
+  find_without k j (c ∷ cs) =
+      cond_both (eqb (key c) j) (without key j cs) (c ∷ without key j cs) (λ m. element_of key k m ≡ cond (eqb j k) None (element_of key k (c ∷ cs)))
+      (λ p. find_without k j cs ∙ ⊎_elim (λ s. rw s refl) (λ s. let f : eqb (key c) k ≡ false = grind (arith, nat_tests) in rw (s, f) refl) (cases_Bool (eqb j k)))
+      (λ p.
+      ⊎_elim
+      (λ s.
+      let f : eqb j k ≡ false = grind (arith, nat_tests) in
+      let e = eqb-true (key c) k s in
+      find_hit k c (without key j cs) e ∙ sym (cond-false (eqb j k) None (element_of key k (c ∷ cs)) f ∙ find_hit k c cs e))
+      (λ s. rw s (find_without k j cs))
+      (cases_Bool (eqb (key c) k)))
 
   headed_put : (j : ℕ) (n : A) (xs : List A) → headed j (map key xs) ≡ true → j < key n → headed j (map key (put key n xs)) ≡ true
   headed_put j n [] h l = lt-ltb j (key n) l

@@ -1,7 +1,8 @@
-use Rattle.std.specs.Prelude.{ℕ, suc, cond, List, [], ◌∷◌, length, Ok, Err, Result, nat_le}
+use Rattle.std.specs.Prelude.{◌≡◌, ℕ, suc, cond, List, [], ◌∷◌, length, take, Ok, Err, Option, Result, ◌==◌, nat_le}
+use Rattle.std.specs.List.{list_any}
 use Rattle.values.specs.declared.version.Version.{Version}
-use Rattle.stores.specs.Provider.{Cell, Provider}
-use Rattle.stores.specs.Operations.{room_for, put_after}
+use Rattle.stores.specs.Provider.{Pair, Cell, Provider, keys}
+use Rattle.stores.specs.Operations.{room_for, put_after, get_answer}
 
 -- Cells are put into a provider one by one, in their order, until one finds no room.
 
@@ -22,3 +23,13 @@ copy_answer from to sheet = cond (nat_le (length from.cells) (length sheet)) (Ok
 
 abbrev pub copy_after : Provider → Provider → List Version → Provider
 copy_after from to sheet = cond (nat_le (length from.cells) (length sheet)) (put_all from.cells to) to
+
+-- What a get answers of the other provider after a copy of n keys: under the first n keys of the one what that one
+-- answers, and under any other key what it answered before.
+abbrev pub copied_answer : ℕ → Provider → Provider → ℕ → Option Pair
+copied_answer n from to k = cond (list_any (λ j. j == k) (take n (keys from))) (get_answer k from) (get_answer k to)
+
+-- Cells are put into a store one after the other, each once, where `puts` is what one put makes of the store itself.
+abbrev pub PutEach : {S : Type 0} → (S → Cell → S → Type 0) → List Cell → S → S → Type 0
+PutEach puts [] before after = after ≡ before
+PutEach {S} puts (c ∷ cs) before after = (next : S) × puts before c next × PutEach puts cs next after

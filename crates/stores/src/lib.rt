@@ -2,5 +2,6 @@
 #![tactic(auto)]
 
 pub mod copying;
+pub mod law;
 pub mod store;
 pub mod stored;

@@ -1,9 +1,9 @@
-use Rattle.std.proofs.Common.{length, get_or, sym, ap, ◌∙◌, arith}
+use Rattle.std.proofs.Common.{◌≡◌, length, get_or, take, sym, ap, ◌∙◌, subst, arith}
 use Rattle.std.proofs.lemmas.List.{length-map, at_drop_all}
 use Rattle.values.specs.Rank.{version_of}
 use Rattle.stores.specs.Provider.{cell_key, keys, cell}
-use Rattle.stores.specs.Copying.{put_count, put_all}
-use Rattle.stores.proofs.CopySteps.{first, room_of, full_of, not_absent, more_count, more_all, end_count, end_all}
+use Rattle.stores.specs.Copying.{put_count, put_all, PutEach}
+use Rattle.stores.proofs.CopySteps.{first, of_ok, of_err, room_of, full_of, not_absent, more_count, more_all, more_once, end_count, end_all}
 use Rattle.stores.proofs.copying.copy_listed.Goals as goal
 
 pub returns-in_default : goal.returns-in_default
@@ -17,8 +17,9 @@ returns-then-is_err g c =
     let x = cell (get_or c.args.listed.now c.loop-i.i first) s.version (g.V.Kind.code s.value) in
     let full = full_of x q c.put.result c.put.ensures.answer (sym c.is_err.ensures.value ∙ c.if-is_err.true) in
     record {
-      answer = end_count p c.args.listed.now c.loop-i.i c.requires c.loop-i-test.true (g.met.S.Store.sorted c.args.from.now) g.V.Kind.code s c.in-Some.ensures q _ full c.loop-i.invariant.0;
-      after = end_all p c.args.listed.now c.loop-i.i c.requires c.loop-i-test.true (g.met.S.Store.sorted c.args.from.now) g.V.Kind.code s c.in-Some.ensures q _ _ full c.put.ensures.after c.loop-i.invariant.1;
+      answer = end_count p c.args.listed.now c.loop-i.i c.requires c.loop-i-test.true (g.met.S.Store.sorted c.args.from.now) g.V.Kind.code s c.in-Some.ensures q _ full c.loop-i.invariant.counted;
+      after = end_all p c.args.listed.now c.loop-i.i c.requires c.loop-i-test.true (g.met.S.Store.sorted c.args.from.now) g.V.Kind.code s c.in-Some.ensures q _ _ full c.put.ensures.after c.loop-i.invariant.after;
+      once = subst (PutEach g.T.Store.puts (take c.loop-i.i p.cells) c.args.to.now) (sym (of_err c.put.result (sym c.is_err.ensures.value ∙ c.if-is_err.true) c.put.ensures.refusal)) c.loop-i.invariant.once;
     }
 
 pub loop-i-preserved : goal.loop-i-preserved
@@ -27,10 +28,12 @@ loop-i-preserved g c =
     let q = g.T.Store.provider c.loop-i.to in
     let s = c.in-Some.stored in
     let x = cell (get_or c.args.listed.now c.loop-i.i first) s.version (g.V.Kind.code s.value) in
-    let room = room_of x q c.put.result c.put.ensures.answer (sym c.is_err.ensures.value ∙ c.if-is_err.false) in (
-      more_count p c.args.listed.now c.loop-i.i c.requires c.loop-i-test.true (g.met.S.Store.sorted c.args.from.now) g.V.Kind.code s c.in-Some.ensures q _ _ room c.put.ensures.after c.loop-i.invariant.0,
-      more_all p c.args.listed.now c.loop-i.i c.requires c.loop-i-test.true (g.met.S.Store.sorted c.args.from.now) g.V.Kind.code s c.in-Some.ensures q _ _ room c.put.ensures.after c.loop-i.invariant.1,
-    )
+    let room = room_of x q c.put.result c.put.ensures.answer (sym c.is_err.ensures.value ∙ c.if-is_err.false) in
+    record {
+      counted = more_count p c.args.listed.now c.loop-i.i c.requires c.loop-i-test.true (g.met.S.Store.sorted c.args.from.now) g.V.Kind.code s c.in-Some.ensures q _ _ room c.put.ensures.after c.loop-i.invariant.counted;
+      after = more_all p c.args.listed.now c.loop-i.i c.requires c.loop-i-test.true (g.met.S.Store.sorted c.args.from.now) g.V.Kind.code s c.in-Some.ensures q _ _ room c.put.ensures.after c.loop-i.invariant.after;
+      once = more_once p c.args.listed.now c.loop-i.i c.requires c.loop-i-test.true (g.met.S.Store.sorted c.args.from.now) g.V.Kind.code s c.in-Some.ensures q g.T.Store.puts c.args.to.now c.loop-i.to _ c.loop-i.invariant.once (of_ok c.put.result (sym c.is_err.ensures.value ∙ c.if-is_err.false) c.put.ensures.once);
+    }
 
 pub returns : goal.returns
 returns g c =
@@ -41,4 +44,9 @@ returns g c =
     let k = length-map p.cells cell_key in
     let a = at_drop_all (λ cs. put_count cs q) p.cells c.loop-i.i (omega arith) in
     let b = at_drop_all (λ cs. put_all cs q) p.cells c.loop-i.i (omega arith) in
-    record { answer = omega (arith, c.loop-i.invariant.0); after = sym b ∙ c.loop-i.invariant.1 }
+    let e : c.loop-i.i ≡ length c.args.listed.now = omega arith in
+    record {
+      answer = omega (arith, c.loop-i.invariant.counted);
+      after = sym b ∙ c.loop-i.invariant.after;
+      once = subst (λ i. PutEach g.T.Store.puts (take i p.cells) c.args.to.now c.loop-i.to) e c.loop-i.invariant.once;
+    }

@@ -38,7 +38,7 @@ impl<'a> Journal<'a> {
     // A journal without records for values of one kind, over bytes that it makes zero.
     pub fn new<V: Kind>(bytes: &'a mut [u8]) -> Journal<'a>
         ensures log { Holds result (empty V.Kind.WIDTH (length bytes.old)) }
-        ensures room { Largest V.Kind.WIDTH (length bytes.old) result.room }
+        ensures room { Largest V.Kind.WIDTH (length bytes.old) (contents_of result).room }
     {
         let room = room_in::<V>(bytes.len());
         bytes.fill(0);

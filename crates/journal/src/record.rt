@@ -9,7 +9,7 @@ use values::version::{Key, Version};
 
 // A record of a log, as its bytes. It begins with a bit map that is one, and has the key and the version that this names.
 #[derive(Clone, Copy, Drop)]
-pub struct Record<'a> {
+pub(crate) struct Record<'a> {
     pub(crate) bytes: &'a [u8],
     ghost begun: { known (bit_map bytes.now) ≡ true },
     ghost long: { 1 + (form (bit_map bytes.now)).length ≤ length bytes.now },

@@ -7,7 +7,7 @@ use crate::record::Record;
 
 // The records of a log, from the first to the last.
 #[derive(Clone, Copy, Drop)]
-pub struct Records<'a> {
+pub(crate) struct Records<'a> {
     pub(crate) bytes: &'a [u8],
     // how many bytes a value is wide
     pub(crate) width: usize,

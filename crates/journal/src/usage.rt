@@ -9,7 +9,7 @@ impl<'a> Journal<'a> {
     pub fn used(&self) -> usize
         ensures is { result ≡ length (joined (contents_of self.now).records) }
         ensures log { Holds self.now (contents_of self.now) }
-        ensures sounds { sound self.now.width (contents_of self.now).records ≡ true }
+        ensures sounds { sound (contents_of self.now).width (contents_of self.now).records ≡ true }
     {
         self.used
     }

@@ -1,26 +1,27 @@
 -- The law: every list of calls on an opened relay is lawful.
-use Rattle.std.proofs.Common.{◌≡◌, ℕ, zero, suc, ◌+◌, ◌-◌, ◌*◌, ◌/◌, ◌%◌, ◌<◌, ◌≤◌, Bool, true, false, not, ◌&&◌, ltb, leb, List, [], ◌∷◌, ◌++◌, length, get_or, take, sym, refl, ap, subst, subst₂, mod-lt, div-lt_iff_lt-mul, arith}
+use Rattle.std.proofs.Common.{◌≡◌, ℕ, zero, suc, ◌+◌, ◌-◌, ◌*◌, ◌/◌, ◌%◌, ◌<◌, ◌≤◌, true, false, ◌&&◌, ltb, List, [], ◌∷◌, ◌++◌, length, get_or, take, sym, refl, ap, subst, subst₂, mod-lt, div-lt_iff_lt-mul, arith}
 use native.Mathlib.Nat.{mod-add-div'}
 use lib.Arith.{digits_lt}
 use Rattle.std.specs.List.{AllByRecursion}
 use Rattle.std.specs.List.Sorted.{IsPermutation}
 use Rattle.std.proofs.ByRecursion.{All-get_or, All-from_get_or}
 use Rattle.std.proofs.lemmas.List.{get_or-take, length-take}
-use Rattle.std.proofs.lemmas.Bool.{cond_both, leb-true, and_parts, true≢false, ltb-true}
+use Rattle.std.proofs.lemmas.Bool.{cond_both, and_parts, ltb-true}
 use Rattle.stores.specs.Provider.{Provider}
 use Rattle.protocol.specs.Answers.{Call, begin_write, begin_read, post, land, fetch, stop, lose, Answer}
+use Rattle.protocol.specs.Fitting.{AnswersFit, Shows}
 use Rattle.protocol.specs.History.{History, open_writes, Doing, resting, writing, reading, begin_noted, fetch_noted, noted, next_call, history, no_calls}
 use Rattle.protocol.specs.Law.{Lawful, Opened, Law, answers, end, holds_refusal, NotOld, NoneBefore}
 use Rattle.protocol.specs.Lines.{Line, blank_line}
 use Rattle.protocol.specs.Lines as lines
 use Rattle.protocol.specs.Phases.{majority}
-use Rattle.protocol.specs.Seats.{idle, listing, gathering, activity_in}
-use Rattle.protocol.specs.Steps as steps
+use Rattle.protocol.specs.Seats.{Activity, idle, stopped, listing, gathering, storing, activity_in, activity}
 use Rattle.protocol.specs.State.{State, seat_at, no_provider}
-use Rattle.protocol.specs.Steps.{step, outside, refuse}
+use Rattle.protocol.specs.Steps.{step}
 use Rattle.protocol.proofs.Arrangements.{Arranged, done, arranged_shuffled}
 use Rattle.protocol.proofs.Calling.{write_reach, read_reach, post_reach, land_reach, stop_reach, lose_reach}
 use Rattle.protocol.proofs.Fetched.{fetch_reach}
+use Rattle.protocol.proofs.Fits.{ranged, step_fits}
 use Rattle.protocol.proofs.Histories.{Alike, begin_alike, fetch_alike, next_alike, opens_open}
 use Rattle.protocol.proofs.OpenWrites.{opens}
 use Rattle.protocol.proofs.Register.{ShowsBy, opened, ticks, first_state, first_trace, register}
@@ -28,15 +29,16 @@ use Rattle.protocol.proofs.Places.{placed, first_placed, all_before}
 use Rattle.protocol.proofs.Simulation.{Come, Always, story, Reached, seen, pending, transit_of, DoingOk}
 use Rattle.protocol.proofs.Trace.{tick}
 use Rattle.protocol.proofs.View.{View}
-use Rattle.protocol.proofs.Viewing.{view, Sized, Agree, begins, posts, lands, fetches, stops, loses, lines_of, line_here, activities_of}
+use Rattle.protocol.proofs.Viewing.{view, Sized, Agree, begins, posts, lands, fetches, stops, loses, lines_of, line_here, activity_here, activities_of}
 
--- a number that is in range
-pub inside : (s m : ℕ) → outside s m ≡ false → (suc (s - 1) ≡ s) × (s - 1 < m)
-inside s m f = let z = and_parts (leb 1 s) (leb s m) (un_not (leb 1 s && leb s m) f) in let a = leb-true 1 s z.0 in let b = leb-true s m z.1 in (omega arith, omega arith)
-  where
-    un_not : (b : Bool) → not b ≡ false → b ≡ true
-    un_not true e = refl
-    un_not false e = absurd (true≢false e)
+-- what fits what a seat is doing, its record shows
+shown : (n : ℕ) (ls : ℕ → Line) (a : Activity) (v : ℕ) (d : Doing) (o : ℕ) → DoingOk n ls a v d o → Shows a d
+shown n ls idle v d o h = h
+shown n ls stopped v d o h = tt
+shown n ls (listing x) v d o h = h.0
+shown n ls (gathering b) v d o h = h
+shown n ls (storing true u x) v d o h = h.0
+shown n ls (storing false u x) v d o h = h
 
 module _ (m n : ℕ) (n0 : 0 < n) (small : m ≤ 65534) where
   -- a state and a history that a run leads to
@@ -71,25 +73,29 @@ module _ (m n : ℕ) (n0 : 0 < n) (small : m ≤ 65534) where
     fetched : (s : ℕ) (z : State × Answer) (y : View × Answer) → suc (s - 1) ≡ s → Agree m n z y → Reached n m y.0 (fetch_noted (s - 1) y.1 (story w)) → Sound z.0 (fetch_noted s z.1 H)
     fetched s z y e a r = made (λ b. fetch_noted (s - 1) b (story w)) (λ b. fetch_noted s b H) z y a r (subst (λ k. Alike (fetch_noted (s - 1) z.1 (story w)) (fetch_noted k z.1 H)) e (fetch_alike (story w) H h.alike (s - 1) z.1))
 
-    -- a number out of range is refused
-    ranged : (P : State × Answer → Type 0) (s k e : ℕ) (z : State × Answer) → P (refuse C e) → (suc (s - 1) ≡ s → s - 1 < k → P z) → P (steps.check (outside s k) e C z)
-    ranged P s k e z out go = cond_both (outside s k) _ _ P (λ _. out) (λ f. let i = inside s k f in go i.0 i.1)
-
     one : (c : Call) → let z = step m n C c in Sound z.0 (noted c z.1 H)
-    one (begin_write s x) = ranged (λ z. Sound z.0 (begin_noted s (writing x) z.1 H)) s m 5 _ h (λ e l. begun s (writing x) _ _ e (begins m n C h.sized (s - 1) (listing x) l) (write_reach n m (view m n C) (s - 1) x l w))
-    one (begin_read s b) = ranged (λ z. Sound z.0 (begin_noted s (reading b) z.1 H)) s m 5 _ h (λ e l. begun s (reading b) _ _ e (begins m n C h.sized (s - 1) (gathering b) l) (read_reach n m (view m n C) (s - 1) b l w))
+    one (begin_write s x) = ranged C (λ z. Sound z.0 (begin_noted s (writing x) z.1 H)) s m 5 _ h (λ e l. begun s (writing x) _ _ e (begins m n C h.sized (s - 1) (listing x) l) (write_reach n m (view m n C) (s - 1) x l w))
+    one (begin_read s b) = ranged C (λ z. Sound z.0 (begin_noted s (reading b) z.1 H)) s m 5 _ h (λ e l. begun s (reading b) _ _ e (begins m n C h.sized (s - 1) (gathering b) l) (read_reach n m (view m n C) (s - 1) b l w))
     one (post s i) = let P : State × Answer → Type 0 = λ z. Sound z.0 H in
-        ranged P s m 5 _ h (λ _ l. ranged P i n 6 _ h (λ _ k. unchanged _ _ (posts m n C h.sized (s - 1) (i - 1) l k) (post_reach n m (view m n C) (s - 1) (i - 1) l w)))
+        ranged C P s m 5 _ h (λ _ l. ranged C P i n 6 _ h (λ _ k. unchanged _ _ (posts m n C h.sized (s - 1) (i - 1) l k) (post_reach n m (view m n C) (s - 1) (i - 1) l w)))
     one (land s i) = let P : State × Answer → Type 0 = λ z. Sound z.0 H in
-        ranged P s m 5 _ h (λ _ l. ranged P i n 6 _ h (λ _ k. unchanged _ _ (lands m n C h.sized (s - 1) (i - 1) l k) (land_reach n m n0 small (view m n C) (s - 1) (i - 1) l k w)))
+        ranged C P s m 5 _ h (λ _ l. ranged C P i n 6 _ h (λ _ k. unchanged _ _ (lands m n C h.sized (s - 1) (i - 1) l k) (land_reach n m n0 small (view m n C) (s - 1) (i - 1) l k w)))
     one (fetch s i) = let P : State × Answer → Type 0 = λ z. Sound z.0 (fetch_noted s z.1 H) in
-        ranged P s m 5 _ h (λ e l. ranged P i n 6 _ h (λ _ k. fetched s _ _ e (fetches m n C h.sized (s - 1) (i - 1) l k) (fetch_reach n m n0 small (view m n C) (s - 1) (i - 1) l k w)))
-    one (stop s) = ranged (λ z. Sound z.0 H) s m 5 _ h (λ _ l. unchanged _ _ (stops m n C h.sized (s - 1) l) (stop_reach n m (view m n C) (s - 1) w))
-    one (lose i) = ranged (λ z. Sound z.0 H) i n 6 _ h (λ _ k. unchanged _ _ (loses m n C h.sized (i - 1) k) (lose_reach n m (view m n C) (i - 1) w))
+        ranged C P s m 5 _ h (λ e l. ranged C P i n 6 _ h (λ _ k. fetched s _ _ e (fetches m n C h.sized (s - 1) (i - 1) l k) (fetch_reach n m n0 small (view m n C) (s - 1) (i - 1) l k w)))
+    one (stop s) = ranged C (λ z. Sound z.0 H) s m 5 _ h (λ _ l. unchanged _ _ (stops m n C h.sized (s - 1) l) (stop_reach n m (view m n C) (s - 1) w))
+    one (lose i) = ranged C (λ z. Sound z.0 H) i n 6 _ h (λ _ k. unchanged _ _ (loses m n C h.sized (i - 1) k) (lose_reach n m (view m n C) (i - 1) w))
 
   pub sound : (cs : List Call) (C : State) (H : History) → Sound C H → Sound (end m n C cs) (history cs (answers m n C cs) H)
   sound [] C H h = h
   sound (c ∷ cs) C H h = sound cs _ _ (ticked _ _ (one C H h c))
+
+  -- the seats' records show what the history says that the seats are doing
+  running : (C : State) (H : History) → Sound C H → (s : ℕ) → s < m → Shows (activity (seat_at C s)) (H.doing (suc s))
+  running C H h s l = subst₂ Shows (activity_here m n C.seats s l) (h.alike.doing s) (shown n ((view m n C).line s) _ _ _ _ (h.come.doings s tt))
+
+  answers_fit : (cs : List Call) (C : State) (H : History) → Sound C H → AnswersFit cs (answers m n C cs) H
+  answers_fit [] C H h = tt
+  answers_fit (c ∷ cs) C H h = (step_fits m n C H.doing (running C H h) c, answers_fit cs _ _ (ticked _ _ (one C H h c)))
 
   -- what open hands over
   opens_none : (q : ℕ) (t o v : ℕ → ℕ) (k : ℕ) → opens q t o v (λ s. resting) k ≡ []
@@ -139,7 +145,7 @@ module _ (m n : ℕ) (n0 : 0 < n) (small : m ≤ 65534) where
       let r = register n m n0 small w.st w.trace w.run in
       All-from_get_or _ C.row no_provider (λ i _. subst (λ c. length c ≤ m + 2) (w.match.cells i) (r.few_keys i))
 
-  module _ (cs : List Call) (as' : List Answer) (E : State) (h : Sound E (history cs as' no_calls)) where
+  module _ (cs : List Call) (as' : List Answer) (E : State) (fit : AnswersFit cs as' no_calls) (h : Sound E (history cs as' no_calls)) where
     line_roomy : (k : ℕ) → k < m * n → holds_refusal (get_or E.lines k blank_line).state ≡ false
     line_roomy k l =
         let i = k % n in
@@ -157,6 +163,7 @@ module _ (m n : ℕ) (n0 : 0 < n) (small : m ≤ 65534) where
         let same = h.alike.plain in
         let exact : IsPermutation (H.finished ++ open_writes (majority n) (λ s. (seat_at E s).version) H m) w.trace.order = arranged_shuffled _ _ (subst₂ (λ f l. Arranged (f ++ l) w.trace.order) h.alike.finished (opens_open (majority n) (view m n E).version (story w) H h.alike m) w.arranged) in
         record {
+          answers_fit = fit;
           order = w.trace.order;
           exactly = exact;
           rising = r.rising;
@@ -166,9 +173,14 @@ module _ (m n : ℕ) (n0 : 0 < n) (small : m ≤ 65534) where
           plain_some = all_before H m (λ s. (seat_at E s).version) w.trace.order _ exact (placed cs as' no_calls first_placed) (subst (AllByRecursion (ShowsBy w.trace.order)) same r.plain_some);
           plain_new = subst (AllByRecursion (NotOld w.trace.order)) same r.plain_new;
           plain_none = subst (AllByRecursion (NoneBefore w.trace.order)) same r.plain_none;
+          running = running E H h;
           few_keys = bounded E H h;
           roomy = All-from_get_or _ (take (m * n) E.lines) blank_line (λ i l. let b : i < m * n = omega (arith, length-take (m * n) E.lines) in subst (λ (l : Line). holds_refusal l.state ≡ false) (sym (get_or-take (m * n) E.lines i blank_line b)) (line_roomy i b));
         }
 
 pub law : Law
-law m n C h cs = lawful m n h.some_provider h.few_seats cs (answers m n C cs) (end m n C cs) (sound m n h.some_provider h.few_seats cs C no_calls (first m n h.some_provider h.few_seats C h))
+law m n C h cs =
+    let n0 = h.some_provider in
+    let small = h.few_seats in
+    let o = first m n n0 small C h in
+    lawful m n n0 small cs (answers m n C cs) (end m n C cs) (answers_fit m n n0 small cs C no_calls o) (sound m n n0 small cs C no_calls o)

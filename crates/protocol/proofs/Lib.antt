@@ -23,6 +23,7 @@ pub mod Fetched
 pub mod Sheets
 pub mod Viewing
 pub mod Histories
+pub mod Fits
 pub mod Lawfulness
 pub mod Unlawful
 pub mod Places

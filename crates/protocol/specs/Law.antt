@@ -1,13 +1,15 @@
-use Rattle.std.specs.Prelude.{◌≡◌, ℕ, ◌+◌, ◌*◌, ◌<◌, ◌≤◌, Bool, true, false, cond, ◌≢◌, ◌⊎◌, List, [], ◌∷◌, ◌++◌, length, take, None, Option, slice_index_or}
+use Rattle.std.specs.Prelude.{◌≡◌, ℕ, suc, ◌+◌, ◌*◌, ◌<◌, ◌≤◌, Bool, true, false, cond, ◌≢◌, ◌⊎◌, List, [], ◌∷◌, ◌++◌, length, take, None, Option, slice_index_or}
 use Rattle.std.specs.List.{AllByRecursion}
 use Rattle.std.specs.List.Sorted.{IsPermutation}
 use Rattle.stores.specs.Provider.{Provider}
 use Rattle.protocol.specs.Answers.{Call, Answer}
+use Rattle.protocol.specs.Fitting.{AnswersFit, Shows}
 use Rattle.protocol.specs.History.{Operation, no_calls, history, open_writes}
 use Rattle.protocol.specs.Lines.{LineState, free, sent, answered, Line, blank_line}
 use Rattle.protocol.specs.Lines as st
 use Rattle.protocol.specs.Phases.{majority}
 use Rattle.protocol.specs.Requests.{Reply, keys_are, got, accepted, refused_by}
+use Rattle.protocol.specs.Seats.{activity}
 use Rattle.protocol.specs.State.{State, seat_at}
 use Rattle.protocol.specs.Steps.{step}
 use Rattle.protocol.specs.declared.phase.Phase.TheVariants.{Idle}
@@ -72,6 +74,8 @@ plain_reads calls answers = (history calls answers no_calls).plain
 
 -- What a run of calls on a relay of m seats and n providers obeys: the calls, their answers, and the state at their end.
 pub record Lawful (m n : ℕ) (calls : List Call) (answers : List Answer) (end : State) : Type 0 where
+  -- each call has one answer, which fits the operation that its seat is in the middle of;
+  pub answers_fit : AnswersFit calls answers no_calls
   -- there is one order of the operations,
   pub order : List Operation
   -- which has exactly the writes that have a version and the finished settled reads, each once;
@@ -89,6 +93,8 @@ pub record Lawful (m n : ℕ) (calls : List Call) (answers : List Answer) (end :
   pub plain_new : AllByRecursion (NotOld order) (plain_reads calls answers)
   -- and it shows nothing only if no write had finished before it began;
   pub plain_none : AllByRecursion (NoneBefore order) (plain_reads calls answers)
+  -- at the end the seats' records show the operations that they are in the middle of;
+  pub running : (s : ℕ) → s < m → Shows (activity (seat_at end s)) ((history calls answers no_calls).doing (suc s))
   -- each provider holds at most m + 2 keys,
   pub few_keys : AllByRecursion (λ (p : Provider). length p.cells ≤ m + 2) end.row
   -- and no line holds the answer that a put found no room.

@@ -8,5 +8,6 @@ pub mod Phases
 pub mod State
 pub mod Steps
 pub mod History
+pub mod Fitting
 pub mod Law
 pub mod Examples

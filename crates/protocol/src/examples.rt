@@ -1,5 +1,6 @@
-ghost use Rattle.std.specs.Prelude.{◌≡◌, [], ◌∷◌, Some};
+ghost use Rattle.std.specs.Prelude.{◌≡◌, true, [], ◌∷◌, Some};
 ghost use Rattle.stores.specs.Operations.{get_answer};
+ghost use Rattle.protocol.specs.Answers.{begin_write, begin_read, fetch, stop, ok, wrote, read};
 ghost use Rattle.protocol.specs.Examples.{fresh, write_calls, write_answers, overlap_calls, overlap_answers, late_calls, late_answers, recovery_calls, recovery_answers, old_calls, old_answers, Unlawful, key, store_requests};
 ghost use Rattle.protocol.specs.Phases.{next_version};
 ghost use Rattle.protocol.specs.Requests.{list_keys, remove_key};
@@ -30,6 +31,17 @@ pub fn late_put_runs()
 // The law can fail: a settled read that shows an older write, after a newer one has finished, is not lawful.
 pub fn old_read_is_unlawful()
     ensures { Unlawful 2 3 old_calls old_answers }
+{}
+
+// Nor is an answer lawful that does not fit its seat's operation, whatever the state at the end: a write ends where none
+// has begun; a read begins in the middle of a write; a write ends as a read; a fetch is accepted as a begin is; and a call has
+// no answer.
+pub fn unfit_answers_are_unlawful()
+    ensures ends_nothing { Unlawful 2 3 (fetch 1 1 ∷ []) (wrote 65537 ∷ []) }
+    ensures begins_within { Unlawful 2 3 (begin_write 1 (7 ∷ []) ∷ (begin_read 1 true ∷ [])) (ok ∷ (ok ∷ [])) }
+    ensures write_reads { Unlawful 2 3 (begin_write 1 (7 ∷ []) ∷ (fetch 1 1 ∷ [])) (ok ∷ (read 65537 (7 ∷ []) ∷ [])) }
+    ensures fetch_accepted { Unlawful 2 3 (begin_write 1 (7 ∷ []) ∷ (fetch 1 1 ∷ [])) (ok ∷ (ok ∷ [])) }
+    ensures unanswered { Unlawful 2 3 (stop 1 ∷ []) [] }
 {}
 
 // The version that follows the largest listed key, and the requests that a storing line makes, in their order.

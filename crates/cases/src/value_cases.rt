@@ -50,6 +50,15 @@ fn a_hold_whose_first_minute_is_after_its_last_is_free(rt: HostRuntime) {
 }
 
 #[test]
+fn holds_are_equal_where_they_mean_the_same(rt: HostRuntime) {
+    assert!(rt; held(3, 21, 20) == held(4, 9, 8));
+    assert!(rt; held(3, 21, 20) == Hold::Free);
+    assert!(rt; held(3, 20, 20) != Hold::Free);
+    assert!(rt; held(3, 20, 20) != held(3, 20, 21));
+    assert!(rt; held(3, 20, 20) != held(4, 20, 20));
+}
+
+#[test]
 fn a_hold_from_10_to_20_covers_both_and_not_9_or_21(rt: HostRuntime) {
     let hold = held(1, 10, 20);
     assert!(rt; hold.covers(10));

@@ -1,1 +1,3 @@
 pub mod Ranks
+pub mod HoldBytes
+pub mod SecretSheets

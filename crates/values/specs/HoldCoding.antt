@@ -1,11 +1,12 @@
-use Rattle.std.specs.Prelude.{◌≡◌, ℕ, ◌/◌, ◌%◌, ◌^◌, true, ◌&&◌, List, [], ◌∷◌, ◌++◌, length, Some, nat_le, nat_lt, slice_index, refl}
-use Rattle.std.proofs.Common.{sym, ◌∙◌, arith}
+use Rattle.std.specs.Prelude.{◌≡◌, ℕ, ◌^◌, Bool, true, false, ◌&&◌, List, [], ◌∷◌, length, Some, nat_eq, nat_le, nat_lt, refl}
+use Rattle.std.specs.Cmp.{IsEquivalence}
+use Rattle.std.specs.Cmp.Lexicographic.{pointwise, on_texts_equal}
+use Rattle.std.proofs.Common.{subst, arith}
 use Rattle.std.proofs.lemmas.Bool.{cond_both, and_parts, ltb-true, leb-true}
-use Rattle.values.specs.Little.{little}
-use Rattle.values.specs.Holds.{proper, hold_means, hold_code, hold_decoded}
+use Rattle.values.specs.Holds.{proper, hold_means, same_hold, hold_code, hold_decoded}
 use Rattle.values.specs.declared.hold.Hold.{Hold}
 use Rattle.values.specs.declared.hold.Hold.TheVariants.{Free, Held}
-use Rattle.values.specs.LittleEndian.{little_four, unlittle_little}
+use Rattle.values.specs.LittleEndian.{unlittle_little}
 
 pub length_hold_code : (h : Hold) → length (hold_code h) ≡ 11
 length_hold_code Free = refl
@@ -28,9 +29,20 @@ decoded_hold Free = refl
 decoded_hold (Held seat first last) =
     cond_both (proper seat first last) (Held seat first last) Free (λ h. hold_decoded (hold_code h) ≡ Some h) (decoded_held seat first last) (λ _. refl)
 
--- the bytes of a held hold, from those of its numbers as the standard library gives them
-pub held_bytes : (seat first last : ℕ) (s f l : List ℕ) → proper seat first last ≡ true → s ≡ seat % 256 ∷ (seat / 256 % 256 ∷ []) → f ≡ first % 256 ∷ (first / 256 % 256 ∷ (first / 65536 % 256 ∷ (first / 16777216 % 256 ∷ []))) → l ≡ last % 256 ∷ (last / 256 % 256 ∷ (last / 65536 % 256 ∷ (last / 16777216 % 256 ∷ []))) → 7 ∷ (slice_index s 0 ∷ (slice_index s 1 ∷ (slice_index f 0 ∷ (slice_index f 1 ∷ (slice_index f 2 ∷ (slice_index f 3 ∷ (slice_index l 0 ∷ (slice_index l 1 ∷ (slice_index l 2 ∷ (slice_index l 3 ∷ [])))))))))) ≡ hold_code (hold_means (Held seat first last))
-held_bytes seat first last s f l ok es ef el =
-    let a : hold_code (hold_means (Held seat first last)) ≡ 7 ∷ (little 2 seat ++ (little 4 first ++ little 4 last)) = rw ok refl in
-    let b : 7 ∷ (little 2 seat ++ (little 4 first ++ little 4 last)) ≡ 7 ∷ (s ++ (f ++ l)) = cc (es, ef ∙ sym (little_four first), el ∙ sym (little_four last)) in
-    sym (a ∙ (b ∙ rw (es, ef, el) refl))
+-- the numbers of a held hold
+abbrev parts : Hold → List ℕ
+parts Free = []
+parts (Held seat first last) = seat ∷ first ∷ last ∷ []
+
+and_true : (b : Bool) → (b && true) ≡ b
+and_true true = refl
+and_true false = refl
+
+by_parts : (a b : Hold) → pointwise nat_eq (parts a) (parts b) ≡ same_hold a b
+by_parts Free Free = refl
+by_parts Free (Held s f l) = refl
+by_parts (Held seat first last) Free = refl
+by_parts (Held seat first last) (Held s f l) = simp and_true
+
+pub same_hold_equivalence : IsEquivalence same_hold
+same_hold_equivalence = subst IsEquivalence (λ i a b. by_parts a b i) (on_texts_equal parts)

@@ -1,4 +1,4 @@
-use Rattle.std.specs.Prelude.{ℕ, ◌^◌, Bool, false, cond, ◌&&◌, List, [], ◌∷◌, ◌++◌, take, replicate, Some, None, Ok, Err, Option, Result, ◌==◌, nat_le, nat_lt}
+use Rattle.std.specs.Prelude.{ℕ, ◌^◌, Bool, true, false, cond, ◌&&◌, List, [], ◌∷◌, ◌++◌, take, replicate, Some, None, Ok, Err, Option, Result, ◌==◌, nat_le, nat_lt}
 use Rattle.std.specs.List.{between}
 use Rattle.values.specs.Little.{little, unlittle}
 use Rattle.values.specs.declared.hold.Hold.{Hold}
@@ -13,6 +13,12 @@ proper seat first last = nat_lt seat (2 ^ 16) && (nat_lt last (2 ^ 32) && nat_le
 abbrev pub hold_means : Hold → Hold
 hold_means Free = Free
 hold_means (Held seat first last) = cond (proper seat first last) (Held seat first last) Free
+
+-- whether two holds, by their meanings, are the same: both free, or both by one seat for the same minutes
+abbrev pub same_hold : Hold → Hold → Bool
+same_hold Free Free = true
+same_hold (Held seat first last) (Held s f l) = seat == s && (first == f && last == l)
+same_hold _ _ = false
 
 -- what making a held hold answers
 abbrev pub make_hold : ℕ → ℕ → ℕ → Result Hold ℕ

@@ -1,11 +1,7 @@
-use Rattle.std.specs.Prelude.{◌≡◌, ℕ, zero, suc, ◌/◌, ◌%◌, ◌^◌, ◌<◌, [], ◌∷◌, length, refl}
-use Rattle.std.proofs.Common.{ap, arith}
+use Rattle.std.specs.Prelude.{◌≡◌, ℕ, zero, suc, ◌/◌, ◌%◌, ◌^◌, ◌<◌, [], ◌∷◌}
+use Rattle.std.proofs.Common.{arith}
 use Rattle.std.proofs.Math.Nat.{pow-succ'}
 use Rattle.values.specs.Little.{little, unlittle}
-
-pub length_little : (k n : ℕ) → length (little k n) ≡ k
-length_little zero n = refl
-length_little (suc k) n = ap suc (length_little k (n / 256))
 
 -- four bytes as the standard library gives them
 pub little_four : (n : ℕ) → little 4 n ≡ n % 256 ∷ (n / 256 % 256 ∷ (n / 65536 % 256 ∷ (n / 16777216 % 256 ∷ [])))

@@ -1,10 +1,11 @@
 ghost use Rattle.std.specs.Prelude.{◌≡◌, refl};
+ghost use Rattle.std.specs.Cmp.{on_equiv, partial_equiv_from_equiv};
 ghost use Rattle.values.specs.Refusals.{outcome, numbered};
 ghost use Rattle.values.specs.Sheets.{read_answer};
-ghost use Rattle.values.specs.Holds.{hold_means, make_hold, covers_minute, hold_code, hold_decoded};
+ghost use Rattle.values.specs.Holds.{hold_means, same_hold, make_hold, covers_minute, hold_code, hold_decoded};
 ghost use Rattle.values.specs.declared.hold.Hold.{Hold as HoldRecord};
 ghost use Rattle.values.specs.declared.hold.Hold.TheVariants.{Free};
-ghost use Rattle.values.specs.HoldCoding.{length_hold_code, decoded_hold};
+ghost use Rattle.values.specs.HoldCoding.{length_hold_code, decoded_hold, same_hold_equivalence};
 ghost use Rattle.std.proofs.Common.{rules};
 
 use crate::kind::Kind;
@@ -13,7 +14,7 @@ use crate::refusal::Refusal;
 // Who may use a shared login: nobody, or one seat from a first minute to a last, both included. The record has no
 // invariant, so every record means something: a hold whose first minute is after its last means the free hold. (It is no
 // `Option`, since a free hold is a value like any other, and a kind of value has methods of its own.)
-#[derive(Clone, Copy, PartialEq, Eq, Debug)]
+#[derive(Clone, Copy, Debug)]
 pub enum Hold {
     Free,
     Held { seat: u16, first: u32, last: u32 },
@@ -40,6 +41,16 @@ impl Hold {
         }
     }
 
+    // The hold that the record means.
+    fn meaning(self) -> Hold
+        ensures { result ≡ hold_means self }
+    {
+        match self {
+            Hold::Held { first, last, .. } if first <= last => self,
+            _ => Hold::Free,
+        }
+    }
+
     // The bytes of a hold. (No `From`: it would be public, and `write` is the one way to these bytes.)
     fn to_bytes(self) -> [u8; 11]
         ensures { result ≡ hold_code (hold_means self) }
@@ -54,6 +65,32 @@ impl Hold {
             _ => [0; 11],
         }
     }
+}
+
+// Two holds are equal where they mean the same hold. (A derived `==` would tell free holds apart whose records differ.)
+impl PartialEq for Hold {
+    ghost eq = { λ a b. same_hold (hold_means a) (hold_means b) };
+
+    ghost laws = { partial_equiv_from_equiv (on_equiv hold_means same_hold_equivalence) };
+
+    fn eq(&self, other: &Hold) -> bool {
+        match (self.meaning(), other.meaning()) {
+            (Hold::Free, Hold::Free) => true,
+            (
+                Hold::Held { seat, first, last },
+                Hold::Held {
+                    seat: other_seat,
+                    first: other_first,
+                    last: other_last,
+                },
+            ) => { seat == other_seat && first == other_first && last == other_last }
+            _ => false,
+        }
+    }
+}
+
+impl Eq for Hold {
+    ghost laws = { on_equiv hold_means same_hold_equivalence };
 }
 
 impl Kind for Hold {

@@ -1,4 +1,4 @@
-ghost use Rattle.std.specs.Prelude.{◌≡◌, max, ◌==◌, nat_lt};
+ghost use Rattle.std.specs.Prelude.{◌≡◌, max, ◌&&◌, ◌||◌, ◌==◌, nat_lt};
 ghost use Rattle.values.specs.Rank.{rank, version_of};
 
 // A version of the register: a sequence number, and the seat that wrote it.
@@ -19,11 +19,18 @@ impl Version {
 
     pub const STANDING: Version = Version { number: 0, seat: 0 };
 
-    // Whether this version comes before the other. (`<` compares the parts. That the ranks compare alike needs the parts'
-    // widths, which are known here of the parameters, and not of every version that lies in memory. So with `same` and
-    // `later`.)
+    // Does nothing. Its contract says what the two constants are: both are (0, 0).
+    pub fn constants_lawful()
+        ensures none { Self.NONE ≡ version_of 0 }
+        ensures standing { Self.STANDING ≡ version_of 0 }
+    {}
+
+    // Whether this version comes before the other: by number, then by seat. (`<` compares the parts. That the ranks compare
+    // alike needs the parts' widths, which are known here of the parameters, and not of every version that lies in memory. So
+    // with `same` and `later`.)
     pub fn before(self, other: Version) -> bool
-        ensures { result ≡ nat_lt (rank self) (rank other) }
+        ensures ranks { result ≡ nat_lt (rank self) (rank other) }
+        ensures order { result ≡ (nat_lt self.number other.number || (self.number == other.number && nat_lt self.seat other.seat)) }
     {
         self < other
     }
@@ -35,9 +42,10 @@ impl Version {
         self.max(other)
     }
 
-    // Whether the two are the same version.
+    // Whether the two are the same version: of one number and one seat.
     pub fn same(self, other: Version) -> bool
-        ensures { result ≡ (rank self == rank other) }
+        ensures ranks { result ≡ (rank self == rank other) }
+        ensures parts { result ≡ (self.number == other.number && self.seat == other.seat) }
     {
         self == other
     }

@@ -1,7 +1,7 @@
 use Rattle.std.proofs.Common.{◌≡◌, true, sym, ap, ◌∙◌, arith}
 use Rattle.std.proofs.lemmas.Bool.Decides.{nat_tests}
 use Rattle.values.specs.Holds.{proper, hold_means, hold_code}
-use Rattle.values.specs.HoldCoding.{held_bytes}
+use Rattle.values.proofs.HoldBytes.{held_bytes}
 use Rattle.values.proofs.hold.Hold.to_bytes.Goals as goal
 
 pub returns-in-Held : goal.returns-in-Held

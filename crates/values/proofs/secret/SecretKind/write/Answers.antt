@@ -1,5 +1,6 @@
 use Rattle.values.specs.Secrets.{contents}
-use Rattle.values.specs.Coding.{contents_short, written}
+use Rattle.values.specs.Coding.{contents_short}
+use Rattle.values.proofs.SecretSheets.{written}
 use Rattle.values.proofs.secret.SecretKind.write.Goals as goal
 
 pub returns-clause-after : goal.returns-clause-after

@@ -1,10 +1,10 @@
-ghost use Rattle.std.specs.Prelude.{◌≡◌, ◌≤◌, true};
-ghost use Rattle.journal.specs.Forms.{form, known, size};
+ghost use Rattle.std.specs.Prelude.{◌≡◌, ◌≤◌, true, slice_index_or};
+ghost use Rattle.journal.specs.Forms.{forms, form, known, size};
 
 use crate::form::Form;
 
 // The forms of records by bit map, for the writer and the reader alike. No record begins with 2 or 3.
-const FORMS: [Option<Form>; 8] = [
+static FORMS: [Option<Form>; 8] = [
     Some(Form {
         key: false,
         version: false,
@@ -45,12 +45,23 @@ const FORMS: [Option<Form>; 8] = [
     }),
 ];
 
+// The row of a bit map in the table, if it has one.
+fn row(map: u8) -> Option<Form>
+    ensures { result ≡ slice_index_or forms map None }
+{
+    if (map as usize) < FORMS.len() {
+        FORMS[map as usize]
+    } else {
+        None
+    }
+}
+
 // The form of a record that begins with the bit map.
 pub(crate) fn form_of(map: u8) -> Form
     requires { known map ≡ true }
     ensures { result ≡ form map }
 {
-    FORMS[map as usize].unwrap()
+    row(map).unwrap()
 }
 
 // How long the record is that begins with the bit map, where values are `w` bytes wide. (That `w` is at most 64 is asked for

@@ -1,6 +1,7 @@
 use Rattle.std.specs.Prelude.{ℕ, List, map, take, drop, Ok, Err, Result}
 use Rattle.std.specs.Option.{option_map}
 use Rattle.values.specs.Rank.{rank}
+use Rattle.values.specs.declared.version.Version.{Version}
 use Rattle.values.specs.Refusals.{refusal_number}
 use Rattle.values.specs.declared.refusal.Refusal.{Refusal}
 use Rattle.stores.specs.Provider.{cell}
@@ -25,9 +26,12 @@ use Rattle.records.specs.declared.seat.Seat.{Seat}
 
 -- What the records of a relay mean, in the terms of the protocol. `code` gives the bytes that a value is written as.
 
--- the keys of a list, by rank
+-- the keys of a list, and the same by rank
+abbrev pub keys_of : KeyList → List Version
+keys_of l = drop l.from (take l.end l.keys)
+
 abbrev pub listed : KeyList → List ℕ
-listed l = map rank (drop l.from (take l.end l.keys))
+listed l = map rank (keys_of l)
 
 abbrev pub seat_means : {V : Type 0} → (V → List ℕ) → Seat V → sea.Seat
 seat_means code q = record { phase = q.phase; operation = q.operation; version = rank q.version; value = code q.value }

@@ -2,14 +2,16 @@ ghost use Rattle.std.specs.Prelude.{◌≡◌, ◌+◌, ◌<◌, ◌≤◌, ◌|
 ghost use Rattle.values.specs.Rank.{rank};
 ghost use Rattle.protocol.specs.Moves.{largest_key, keys_but};
 ghost use Rattle.protocol.specs.Stages.{any_left};
+ghost use Rattle.std.specs.Cmp.{on_equiv, and_equiv, nat_eq_equiv, partial_equiv_from_equiv};
+ghost use Rattle.std.specs.Cmp.Lexicographic.{pointwise, lists_equiv};
 ghost use Rattle.records.specs.Blanks.{no_keys};
-ghost use Rattle.records.specs.Means.{listed};
+ghost use Rattle.records.specs.Means.{keys_of, listed};
 
 use values::version::Key;
 
 // At most 32 keys: those from place `from` on and before place `end`. (A line is copied and has no heap, so they lie in an
 // array; `as_slice` gives them.)
-#[derive(Clone, Copy, PartialEq, Eq, Debug)]
+#[derive(Clone, Copy, Debug)]
 pub struct KeyList {
     pub keys: [Key; 32],
     pub from: usize,
@@ -48,6 +50,7 @@ impl KeyList {
 
     // The keys of the list, in order. A place past the 32 keys counts as their end.
     pub fn as_slice(&self) -> &[Key]
+        ensures keys { result.now ≡ keys_of self.now }
         ensures ranks { map rank result.now ≡ listed self.now }
         ensures few { length result.now ≤ 32 }
     {
@@ -70,6 +73,7 @@ impl KeyList {
     }
 
     // The keys after the first.
+    #[tactic(auto, using(crate::proofs::Dropping::place_further))]
     pub fn rest(self) -> KeyList
         ensures { listed result ≡ drop 1 (listed self) }
     {
@@ -118,4 +122,19 @@ impl KeyList {
         }
         kept
     }
+}
+
+// Two lists are equal where they list the same keys. (A derived `==` would compare the places too, and the keys past them.)
+impl PartialEq for KeyList {
+    ghost eq = { λ a b. pointwise ⟦<Key as PartialEq>⟧.eq (keys_of a) (keys_of b) };
+
+    ghost laws = { partial_equiv_from_equiv (on_equiv keys_of (lists_equiv (and_equiv (on_equiv (λ k. k.number) nat_eq_equiv) (on_equiv (λ k. k.seat) nat_eq_equiv)))) };
+
+    fn eq(&self, other: &KeyList) -> bool {
+        self.as_slice() == other.as_slice()
+    }
+}
+
+impl Eq for KeyList {
+    ghost laws = { on_equiv keys_of (lists_equiv (and_equiv (on_equiv (λ k. k.number) nat_eq_equiv) (on_equiv (λ k. k.seat) nat_eq_equiv))) };
 }

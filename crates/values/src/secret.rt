@@ -101,6 +101,7 @@ impl Kind for Secret {
         }
     }
 
+    #[tactic(auto, using(crate::proofs::SecretSheets::written))]
     fn write(&self, sheet: &mut [u8]) -> Result<(), Refusal> {
         if sheet.len() != Self::WIDTH {
             return Err(Refusal::UnfitBytes);

@@ -1,4 +1,4 @@
-use Rattle.std.proofs.Common.{◌≡◌, ℕ, ◌+◌, ◌-◌, ◌<◌, List, [], ◌∷◌, ◌++◌, map, length, get_or, take, drop, set, Ok, Err, Result, OnOk, sym, ap, ◌∙◌, append_assoc, arith}
+use Rattle.std.proofs.Common.{◌≡◌, ℕ, ◌+◌, ◌-◌, ◌<◌, List, [], ◌∷◌, ◌++◌, map, length, get_or, take, drop, set, Ok, Err, Result, OnOk, sym, ap, ◌∙◌, subst, add-one, append_assoc, arith}
 use Rattle.std.proofs.lemmas.List.{length-append, length-map, length-take-le, length-drop, drop_more, set_at, get_or_at, map_more}
 use Rattle.values.specs.Refusals.{numbered}
 use Rattle.values.specs.declared.refusal.Refusal.{Refusal}
@@ -40,7 +40,7 @@ pub record Removed {B : Type 0} (row : B → List Provider) (removes : B → ℕ
   pub once : RemoveEach removes k i old now
 
 -- a number from 1 to the length of a row gets an answer
-pub answered : (row old : List Provider) (step : Provider → Provider) (i : ℕ) (r : Result (Unit {0}) Refusal) {P : Type 0}
+answered : (row old : List Provider) (step : Provider → Provider) (i : ℕ) (r : Result (Unit {0}) Refusal) {P : Type 0}
     → row ≡ map step (take i old) ++ drop i old → i < length old → numbered r ≡ answer_of (i + 1) row (λ _. Ok tt) → OnOk r P → P
 answered row old step i r is more told p =
     let n = length-append (map step (take i old)) (drop i old) in
@@ -53,3 +53,15 @@ answered row old step i r is more told p =
     accepted : {P : Type 0} (r : Result (Unit {0}) Refusal) → numbered r ≡ Ok tt → OnOk r P → P
     accepted (Ok x) e p = p
     accepted (Err x) e p = cc
+
+-- one provider more
+pub removed_more : {B : Type 0} (row : B → List Provider) (removes : B → ℕ → ℕ → B → Type 0) (k i : ℕ) (old now next : B) (r : Result (Unit {0}) Refusal)
+    → Removed row removes k i old now → i < length (row old) → row next ≡ row_after (i + 1) (row now) (remove_after k) → numbered r ≡ answer_of (i + 1) (row now) (λ _. Ok tt) → OnOk r (removes now (i + 1) k next)
+    → Removed row removes k (i + 1) old next
+removed_more row removes k i old now next r h more after told once =
+    let step = remove_after k in
+    let done = answered (row now) (row old) step i r h.after more told once in
+    record {
+      after = after ∙ ap (λ ps. row_after (i + 1) ps step) h.after ∙ stepped_more (row old) i more step;
+      once = subst (λ n. RemoveEach removes k n old next) (sym (add-one i)) (now, h.once, subst (λ n. removes now n k next) (add-one i) done);
+    }

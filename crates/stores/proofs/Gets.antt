@@ -4,9 +4,9 @@ use Rattle.std.specs.List.{list_any}
 use Rattle.std.specs.Option.{option_map}
 use Rattle.std.proofs.lemmas.Bool.{cases_Bool, and_parts, cond-true, cond-false, eq-eqb, eqb-true, ne_eqb}
 use Rattle.stores.specs.Keyed.{headed, ascending, element_of, put}
-use Rattle.stores.specs.Provider.{Pair, Cell, Provider, cell_key}
+use Rattle.stores.specs.Provider.{Pair, Cell, Provider, cell_key, keys}
 use Rattle.stores.specs.Operations.{room_for, put_after, remove_after, get_answer}
-use Rattle.stores.specs.Copying.{put_count, put_all}
+use Rattle.stores.specs.Copying.{put_count, put_all, copied_answer}
 use Rattle.stores.specs.MapLaw.{MapLaw}
 use Rattle.stores.proofs.KeyedLists.{find_put, find_without, find_below, find_past, cond_map}
 use Rattle.stores.proofs.CopySteps.{told_room, told_full, full_after}
@@ -66,7 +66,7 @@ more_gets c cs k n last next before asc then first =
     (cases_Bool (eqb c.key k))
 
 -- what a get answers after the puts of a copy
-pub copy_gets : (cs : List Cell) (p : Provider) (k : ℕ) → ascending (map cell_key cs) ≡ true → get_answer k (put_all cs p) ≡ cond (among k (put_count cs p) cs) (pair_of (element_of cell_key k cs)) (get_answer k p)
+copy_gets : (cs : List Cell) (p : Provider) (k : ℕ) → ascending (map cell_key cs) ≡ true → get_answer k (put_all cs p) ≡ cond (among k (put_count cs p) cs) (pair_of (element_of cell_key k cs)) (get_answer k p)
 copy_gets [] p k asc = refl
 copy_gets (c ∷ cs) p k asc =
     let a = and_parts (headed c.key (map cell_key cs)) (ascending (map cell_key cs)) asc in
@@ -81,3 +81,6 @@ copy_gets (c ∷ cs) p k asc =
     ap (get_answer k) (cond-false (room_for c.key p) (put_all cs (put_after c p)) p full)
     ∙ sym (ap gets (cond-false (room_for c.key p) (suc n) 0 full)))
     (cases_Bool (room_for c.key p))
+
+pub copied : (from to after : Provider) (n : ℕ) → ascending (keys from) ≡ true → n ≡ put_count from.cells to → after ≡ put_all from.cells to → (k : ℕ) → get_answer k after ≡ copied_answer n from to k
+copied from to after n asc answer is k = ap (get_answer k) is ∙ (copy_gets from.cells to k asc ∙ ap (λ m. copied_answer m from to k) (sym answer))

@@ -15,6 +15,7 @@ fn copy_listed<V: Kind, S: Store<V>, T: Store<V>>(from: &S, to: &mut T, listed: 
     requires { listed.now ≡ map version_of (keys (S.Store.provider from.now)) }
     ensures answer { result ≡ put_count (S.Store.provider from.now).cells (T.Store.provider to.old) }
     ensures after { T.Store.provider to.new ≡ put_all (S.Store.provider from.now).cells (T.Store.provider to.old) }
+    ensures copied { (k : ℕ) → get_answer k (T.Store.provider to.new) ≡ copied_answer result (S.Store.provider from.now) (T.Store.provider to.old) k }
     ensures once { PutEach T.Store.puts (take result (S.Store.provider from.now).cells) to.old to.new }
 {
     // The place at which the loop ends is the answer, so it is counted.

@@ -3,7 +3,7 @@ use Rattle.std.specs.Option.{unwrap_or}
 use Rattle.journal.specs.declared.form.Form.{Form}
 
 -- A record begins with its bit map: bit 0 for the key, bit 1 for the version, bit 2 for the value.
--- A put has a value and a remove has none, so 2 and 3, and all above 7, are no record's.
+-- A put has a value; a remove has neither value nor version. So 2 and 3, and all above 7, are no record's.
 
 -- what each bit map says of its record, if it is one: which fields follow, and how long key and version are together
 abbrev pub forms : List (Option Form)

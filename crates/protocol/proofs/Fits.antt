@@ -3,7 +3,7 @@ use Rattle.std.proofs.Common.{◌≡◌, ℕ, suc, ◌-◌, ◌/◌, ◌<◌, Bo
 use Rattle.std.proofs.lemmas.Bool.{cond_both, leb-true, and_parts, true≢false}
 use Rattle.stores.specs.Provider.{Pair}
 use Rattle.protocol.specs.Answers.{Call, begin_write, begin_read, post, land, fetch, stop, lose, Answer, ok, on, wrote, read}
-use Rattle.protocol.specs.Fitting.{fits_begin, fits_fetch, fits_other, fits, Shows}
+use Rattle.protocol.specs.Fitting.{fits_begin, fits_fetch, fits_other, fits, RecordShows}
 use Rattle.protocol.specs.History.{Doing, writing, reading}
 use Rattle.protocol.specs.Lines.{LineState, free, sent, answered, is_free, Progress, Line}
 use Rattle.protocol.specs.Moves.{advance}
@@ -27,12 +27,12 @@ pub ranged : (C : State) (P : State × Answer → Type 0) (s k e : ℕ) (z : Sta
 ranged C P s k e z out go = cond_both (outside s k) _ _ P (λ _. out) (λ f. let i = inside s k f in go i.0 i.1)
 
 module _ (n s : ℕ) (C : State) (d : Doing) where
-  begin_fits : (a : Activity) → Shows (activity (seat_at C s)) d → fits_begin (begin_at n s a C).1 d ≡ true
+  begin_fits : (a : Activity) → RecordShows (activity (seat_at C s)) d → fits_begin (begin_at n s a C).1 d ≡ true
   begin_fits a h =
       let P : State × Answer → Type 0 = λ z. fits_begin z.1 d ≡ true in
       cond_both (is_stopped (activity (seat_at C s))) _ _ P (λ _. refl) (λ _. cond_both (not (is_idle (activity (seat_at C s)))) _ _ P (λ _. refl) (λ f. resting_fits (activity (seat_at C s)) f h))
     where
-      resting_fits : (a : Activity) → not (is_idle a) ≡ false → Shows a d → fits_begin ok d ≡ true
+      resting_fits : (a : Activity) → not (is_idle a) ≡ false → RecordShows a d → fits_begin ok d ≡ true
       resting_fits idle f h = ap (fits_begin ok) h
       resting_fits stopped f h = absurd (true≢false f)
       resting_fits (listing x) f h = absurd (true≢false f)
@@ -51,7 +51,7 @@ module _ (n s k : ℕ) (lines : ℕ → Line) (C : State) where
   gathered_fits false (Some p) = refl
 
   module _ (l : Line) (d : Doing) where
-    on_fits : (a : Activity) → foreign a l ≡ false → Shows a d → Fits d goes_on
+    on_fits : (a : Activity) → foreign a l ≡ false → RecordShows a d → Fits d goes_on
     on_fits idle f h = absurd (true≢false f)
     on_fits stopped f h = absurd (true≢false f)
     on_fits (listing x) f h = ap (fits_fetch on) h
@@ -59,7 +59,7 @@ module _ (n s k : ℕ) (lines : ℕ → Line) (C : State) where
     on_fits (storing true v x) f h = ap (fits_fetch on) h
     on_fits (storing false v x) f h = ap (fits_fetch on) h
 
-    end_fits : (a : Activity) → foreign a l ≡ false → Shows a d → Fits d (result_of n k lines a)
+    end_fits : (a : Activity) → foreign a l ≡ false → RecordShows a d → Fits d (result_of n k lines a)
     end_fits idle f h = absurd (true≢false f)
     end_fits stopped f h = absurd (true≢false f)
     end_fits (listing x) f h = subst (λ d. Fits d (end_listing (largest_listed lines n) k x)) (sym h) (cond_both (leb 999999 (largest_listed lines n / 65536)) _ _ (Fits (writing x)) (λ _. refl) (λ _. refl))
@@ -67,7 +67,7 @@ module _ (n s k : ℕ) (lines : ℕ → Line) (C : State) where
     end_fits (storing true v x) f h = ap (fits_fetch (wrote v)) h
     end_fits (storing false v x) f h = ap (fits_fetch (read v x)) h
 
-    judged_fits : (a : Activity) (r : Reply) → foreign a l ≡ false → Shows a d → Fits d (unless_full r (phase_result n k lines a))
+    judged_fits : (a : Activity) (r : Reply) → foreign a l ≡ false → RecordShows a d → Fits d (unless_full r (phase_result n k lines a))
     judged_fits a r f h = go r
       where
         ended : Fits d (phase_result n k lines a)
@@ -79,7 +79,7 @@ module _ (n s k : ℕ) (lines : ℕ → Line) (C : State) where
         go accepted = ended
         go (refused_by e) = on_fits a f h
 
-module _ (n s i : ℕ) (a : Activity) (p : Progress) (C : State) (d : Doing) (h : Shows a d) where
+module _ (n s i : ℕ) (a : Activity) (p : Progress) (C : State) (d : Doing) (h : RecordShows a d) where
   abbrev Fetches : State × Answer → Type 0
   Fetches z = fits_fetch z.1 d ≡ true
 
@@ -92,7 +92,7 @@ module _ (n s i : ℕ) (a : Activity) (p : Progress) (C : State) (d : Doing) (h 
       let E : State = freed n s i (advance a r p) (looks_after C.looks p (advance a r p)) C in
       cond_both (foreign a l) _ _ Fetches (λ _. refl) (λ f. judged_fits n s (suc s) (line_at n E.lines s) E l d a r f h)
 
-fetch_fits : (n s i : ℕ) (a : Activity) (l : Line) (C : State) (d : Doing) → Shows a d → fits_fetch (fetch_at n s i a l C).1 d ≡ true
+fetch_fits : (n s i : ℕ) (a : Activity) (l : Line) (C : State) (d : Doing) → RecordShows a d → fits_fetch (fetch_at n s i a l C).1 d ≡ true
 fetch_fits n s i a l C d h = cond_both (is_stopped a) _ _ (Fetches n s i a l.progress C d h) (λ _. refl) (λ _. fetched_fits n s i a l.progress C d h l.state)
 
 -- post, land, stop and lose are accepted or refused
@@ -110,11 +110,11 @@ land_fits n s i l C = cond_both (lost_at C i) _ _ Other (λ _. refl) (λ _. land
     landed_fits (sent b q) = refl
     landed_fits (answered b r) = refl
 
-pub step_fits : (m n : ℕ) (C : State) (doing : ℕ → Doing) → ((s : ℕ) → s < m → Shows (activity (seat_at C s)) (doing (suc s))) → (c : Call) → fits c (step m n C c).1 doing ≡ true
+pub step_fits : (m n : ℕ) (C : State) (doing : ℕ → Doing) → ((s : ℕ) → s < m → RecordShows (activity (seat_at C s)) (doing (suc s))) → (c : Call) → fits c (step m n C c).1 doing ≡ true
 step_fits m n C doing h = go
   where
-    here : (s : ℕ) → suc (s - 1) ≡ s → s - 1 < m → Shows (activity (seat_at C (s - 1))) (doing s)
-    here s e l = subst (λ k. Shows (activity (seat_at C (s - 1))) (doing k)) e (h (s - 1) l)
+    here : (s : ℕ) → suc (s - 1) ≡ s → s - 1 < m → RecordShows (activity (seat_at C (s - 1))) (doing s)
+    here s e l = subst (λ k. RecordShows (activity (seat_at C (s - 1))) (doing k)) e (h (s - 1) l)
 
     go : (c : Call) → fits c (step m n C c).1 doing ≡ true
     go (begin_write s x) = ranged C (λ z. fits_begin z.1 (doing s) ≡ true) s m 5 _ refl (λ e l. begin_fits n (s - 1) C (doing s) (listing x) (here s e l))

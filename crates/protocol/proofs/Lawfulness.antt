@@ -9,7 +9,7 @@ use Rattle.std.proofs.lemmas.List.{get_or-take, length-take}
 use Rattle.std.proofs.lemmas.Bool.{cond_both, and_parts, ltb-true}
 use Rattle.stores.specs.Provider.{Provider}
 use Rattle.protocol.specs.Answers.{Call, begin_write, begin_read, post, land, fetch, stop, lose, Answer}
-use Rattle.protocol.specs.Fitting.{AnswersFit, Shows}
+use Rattle.protocol.specs.Fitting.{AnswersFit, RecordShows}
 use Rattle.protocol.specs.History.{History, open_writes, Doing, resting, writing, reading, begin_noted, fetch_noted, noted, next_call, history, no_calls}
 use Rattle.protocol.specs.Law.{Lawful, Opened, Law, answers, end, holds_refusal, NotOld, NoneBefore}
 use Rattle.protocol.specs.Lines.{Line, blank_line}
@@ -32,7 +32,7 @@ use Rattle.protocol.proofs.View.{View}
 use Rattle.protocol.proofs.Viewing.{view, Sized, Agree, begins, posts, lands, fetches, stops, loses, lines_of, line_here, activity_here, activities_of}
 
 -- what fits what a seat is doing, its record shows
-shown : (n : ℕ) (ls : ℕ → Line) (a : Activity) (v : ℕ) (d : Doing) (o : ℕ) → DoingOk n ls a v d o → Shows a d
+shown : (n : ℕ) (ls : ℕ → Line) (a : Activity) (v : ℕ) (d : Doing) (o : ℕ) → DoingOk n ls a v d o → RecordShows a d
 shown n ls idle v d o h = h
 shown n ls stopped v d o h = tt
 shown n ls (listing x) v d o h = h.0
@@ -90,12 +90,12 @@ module _ (m n : ℕ) (n0 : 0 < n) (small : m ≤ 65534) where
   sound (c ∷ cs) C H h = sound cs _ _ (ticked _ _ (one C H h c))
 
   -- the seats' records show what the history says that the seats are doing
-  running : (C : State) (H : History) → Sound C H → (s : ℕ) → s < m → Shows (activity (seat_at C s)) (H.doing (suc s))
-  running C H h s l = subst₂ Shows (activity_here m n C.seats s l) (h.alike.doing s) (shown n ((view m n C).line s) _ _ _ _ (h.come.doings s tt))
+  records_show : (C : State) (H : History) → Sound C H → (s : ℕ) → s < m → RecordShows (activity (seat_at C s)) (H.doing (suc s))
+  records_show C H h s l = subst₂ RecordShows (activity_here m n C.seats s l) (h.alike.doing s) (shown n ((view m n C).line s) _ _ _ _ (h.come.doings s tt))
 
   answers_fit : (cs : List Call) (C : State) (H : History) → Sound C H → AnswersFit cs (answers m n C cs) H
   answers_fit [] C H h = tt
-  answers_fit (c ∷ cs) C H h = (step_fits m n C H.doing (running C H h) c, answers_fit cs _ _ (ticked _ _ (one C H h c)))
+  answers_fit (c ∷ cs) C H h = (step_fits m n C H.doing (records_show C H h) c, answers_fit cs _ _ (ticked _ _ (one C H h c)))
 
   -- what open hands over
   opens_none : (q : ℕ) (t o v : ℕ → ℕ) (k : ℕ) → opens q t o v (λ s. resting) k ≡ []
@@ -173,7 +173,7 @@ module _ (m n : ℕ) (n0 : 0 < n) (small : m ≤ 65534) where
           plain_some = all_before H m (λ s. (seat_at E s).version) w.trace.order _ exact (placed cs as' no_calls first_placed) (subst (AllByRecursion (ShowsBy w.trace.order)) same r.plain_some);
           plain_new = subst (AllByRecursion (NotOld w.trace.order)) same r.plain_new;
           plain_none = subst (AllByRecursion (NoneBefore w.trace.order)) same r.plain_none;
-          running = running E H h;
+          records_show = records_show E H h;
           few_keys = bounded E H h;
           roomy = All-from_get_or _ (take (m * n) E.lines) blank_line (λ i l. let b : i < m * n = omega (arith, length-take (m * n) E.lines) in subst (λ (l : Line). holds_refusal l.state ≡ false) (sym (get_or-take (m * n) E.lines i blank_line b)) (line_roomy i b));
         }

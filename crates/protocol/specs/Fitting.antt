@@ -42,10 +42,10 @@ AnswersFit (c ∷ cs) (y ∷ ys) H = (fits c y H.doing ≡ true) × AnswersFit c
 AnswersFit cs ys H = ⊥
 
 -- what a seat's record shows of its operation; that of a seat that has stopped shows nothing
-abbrev pub Shows : Activity → Doing → Type 0
-Shows idle d = d ≡ resting
-Shows stopped d = Unit {0}
-Shows (listing x) d = d ≡ writing x
-Shows (gathering b) d = d ≡ reading b
-Shows (storing true v x) d = d ≡ writing x
-Shows (storing false v x) d = d ≡ reading true
+abbrev pub RecordShows : Activity → Doing → Type 0
+RecordShows idle d = d ≡ resting
+RecordShows stopped d = Unit {0}
+RecordShows (listing x) d = d ≡ writing x
+RecordShows (gathering b) d = d ≡ reading b
+RecordShows (storing true v x) d = d ≡ writing x
+RecordShows (storing false v x) d = d ≡ reading true

@@ -3,7 +3,7 @@ use Rattle.std.specs.List.{AllByRecursion}
 use Rattle.std.specs.List.Sorted.{IsPermutation}
 use Rattle.stores.specs.Provider.{Provider}
 use Rattle.protocol.specs.Answers.{Call, Answer}
-use Rattle.protocol.specs.Fitting.{AnswersFit, Shows}
+use Rattle.protocol.specs.Fitting.{AnswersFit, RecordShows}
 use Rattle.protocol.specs.History.{Operation, no_calls, history, open_writes}
 use Rattle.protocol.specs.Lines.{LineState, free, sent, answered, Line, blank_line}
 use Rattle.protocol.specs.Lines as st
@@ -94,7 +94,7 @@ pub record Lawful (m n : ℕ) (calls : List Call) (answers : List Answer) (end :
   -- and it shows nothing only if no write had finished before it began;
   pub plain_none : AllByRecursion (NoneBefore order) (plain_reads calls answers)
   -- at the end the seats' records show the operations that they are in the middle of;
-  pub running : (s : ℕ) → s < m → Shows (activity (seat_at end s)) ((history calls answers no_calls).doing (suc s))
+  pub records_show : (s : ℕ) → s < m → RecordShows (activity (seat_at end s)) ((history calls answers no_calls).doing (suc s))
   -- each provider holds at most m + 2 keys,
   pub few_keys : AllByRecursion (λ (p : Provider). length p.cells ≤ m + 2) end.row
   -- and no line holds the answer that a put found no room.

@@ -15,7 +15,7 @@ pub fn write_runs()
     ensures { answers 2 3 fresh write_calls ≡ write_answers }
 {}
 
-// A settled read that overlaps a write shows it, and helps it.
+// A settled read that overlaps a write shows it, and puts its value at a second provider.
 pub fn overlapping_read_runs()
     ensures { answers 2 3 fresh overlap_calls ≡ overlap_answers }
 {}

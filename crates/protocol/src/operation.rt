@@ -2,8 +2,8 @@
 #[derive(Clone, Copy, PartialEq, Eq, Debug)]
 pub enum OperationKind {
     Write,
-    // a read that answers as soon as it has seen a majority: a regular read
+    // a read that answers once a majority of its lines is done
     PlainRead,
-    // a read that stores what it found at a majority before it answers: an atomic read
+    // a read that stores what it found at a majority before it answers
     SettledRead,
 }

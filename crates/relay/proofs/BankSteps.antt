@@ -7,7 +7,7 @@ use Rattle.protocol.specs.Answers.{Answer, land, refused}
 use Rattle.protocol.specs.Lines.{LineState, free, sent, answered}
 use Rattle.protocol.specs.State.{line_at, provider_at}
 use Rattle.protocol.specs.Steps.{outside}
-use Rattle.relay.specs.BankSteps.{Lands, BankStep}
+use Rattle.relay.specs.BankSteps.{LandStep, BankStep}
 use Rattle.relay.specs.Checks.{located}
 use Rattle.relay.specs.RelayState.{RelayState, relay_step, line_of}
 use Rattle.relay.specs.Sheets.{acknowledged}
@@ -35,7 +35,7 @@ provider_found (Ok k) m s i at eq = by (outside s m) eq
     by false eq = of_line (outside i k) refl eq
 
 module _ {B : Type 0} (puts : B → ℕ → Cell → B → Type 0) (removes : B → ℕ → ℕ → B → Type 0) (x y : B) where
-  lands_refused : (i : ℕ) (w : LineState) (p : Provider) (e : ℕ) → Lands puts removes i w p (refused e) x x
+  lands_refused : (i : ℕ) (w : LineState) (p : Provider) (e : ℕ) → LandStep puts removes i w p (refused e) x x
   lands_refused i free p e = refl
   lands_refused i (sent b q) p e = refl
   lands_refused i (answered b r) p e = refl
@@ -44,14 +44,14 @@ module _ {B : Type 0} (puts : B → ℕ → Cell → B → Type 0) (removes : B 
   pub not_landed : (R S : RelayState) (s i : ℕ) (r : Result (Unit {0}) Refusal) (e : Refusal) → IsErrAnd r (λ y. y ≡ e) → ◌≡◌ {A = RelayState × Answer} (S, acknowledged r) (relay_step R (land s i)) → BankStep puts removes R (land s i) x x
   not_landed R S s i (Ok u) e h is = absurd h
   not_landed R S s i (Err f) e h is =
-      subst (λ a. Lands puts removes i (line_at (length R.state.row) R.state.lines (s - 1) (i - 1)).state (provider_at R.state (i - 1)) a x x) (ap (λ (z : RelayState × Answer). z.1) is) (lands_refused i _ _ _)
+      subst (λ a. LandStep puts removes i (line_at (length R.state.row) R.state.lines (s - 1) (i - 1)).state (provider_at R.state (i - 1)) a x x) (ap (λ (z : RelayState × Answer). z.1) is) (lands_refused i _ _ _)
 
   -- a land at the line that was found
   pub landed_there : (R S : RelayState) (s i j : ℕ) (a : Answer) (w : LineState) (p : Provider) → j ≡ i → w ≡ (line_at (length R.state.row) R.state.lines (s - 1) (i - 1)).state → p ≡ provider_at R.state (i - 1) →
-      ◌≡◌ {A = RelayState × Answer} (S, a) (relay_step R (land s i)) → Lands puts removes j w p a x y → BankStep puts removes R (land s i) x y
+      ◌≡◌ {A = RelayState × Answer} (S, a) (relay_step R (land s i)) → LandStep puts removes j w p a x y → BankStep puts removes R (land s i) x y
   landed_there R S s i j a w p same line provider is h =
       let state = (line_at (length R.state.row) R.state.lines (s - 1) (i - 1)).state in
-      subst (λ a. Lands puts removes i state (provider_at R.state (i - 1)) a x y) (ap (λ (z : RelayState × Answer). z.1) is)
-      (subst (λ p. Lands puts removes i state p a x y) provider
-      (subst (λ w. Lands puts removes i w p a x y) line
-      (subst (λ j. Lands puts removes j w p a x y) same h)))
+      subst (λ a. LandStep puts removes i state (provider_at R.state (i - 1)) a x y) (ap (λ (z : RelayState × Answer). z.1) is)
+      (subst (λ p. LandStep puts removes i state p a x y) provider
+      (subst (λ w. LandStep puts removes i w p a x y) line
+      (subst (λ j. LandStep puts removes j w p a x y) same h)))

@@ -11,18 +11,18 @@ use Rattle.relay.specs.RelayState.{RelayState, relay_step}
 
 -- A request is carried out at provider i, with this reply. A request that only reads, and a put that is refused, leave the bank
 -- as it was.
-abbrev pub Carried : {B : Type 0} → (B → ℕ → Cell → B → Type 0) → (B → ℕ → ℕ → B → Type 0) → ℕ → Request → Reply → B → B → Type 0
-Carried puts removes i (put_cell c) accepted x y = puts x i c y
-Carried puts removes i (remove_key k) r x y = removes x i k y
-Carried puts removes i q r x y = y ≡ x
+abbrev pub RequestStep : {B : Type 0} → (B → ℕ → Cell → B → Type 0) → (B → ℕ → ℕ → B → Type 0) → ℕ → Request → Reply → B → B → Type 0
+RequestStep puts removes i (put_cell c) accepted x y = puts x i c y
+RequestStep puts removes i (remove_key k) r x y = removes x i k y
+RequestStep puts removes i q r x y = y ≡ x
 
--- A line lands at provider i, which means p: if that is accepted, its request is carried out.
-abbrev pub Lands : {B : Type 0} → (B → ℕ → Cell → B → Type 0) → (B → ℕ → ℕ → B → Type 0) → ℕ → LineState → Provider → Answer → B → B → Type 0
-Lands puts removes i (sent b q) p ok x y = Carried puts removes i q (reply q p) x y
-Lands puts removes i w p a x y = y ≡ x
+-- A line's request lands at provider i, whose meaning is p: if land is accepted, the request is carried out.
+abbrev pub LandStep : {B : Type 0} → (B → ℕ → Cell → B → Type 0) → (B → ℕ → ℕ → B → Type 0) → ℕ → LineState → Provider → Answer → B → B → Type 0
+LandStep puts removes i (sent b q) p ok x y = RequestStep puts removes i q (reply q p) x y
+LandStep puts removes i w p a x y = y ≡ x
 
 -- One call of a relay in state R: land alone works on the bank.
 abbrev pub BankStep : {B : Type 0} → (B → ℕ → Cell → B → Type 0) → (B → ℕ → ℕ → B → Type 0) → RelayState → Call → B → B → Type 0
 BankStep puts removes R (land s i) x y =
-    Lands puts removes i (line_at (length R.state.row) R.state.lines (s - 1) (i - 1)).state (provider_at R.state (i - 1)) (relay_step R (land s i)).1 x y
+    LandStep puts removes i (line_at (length R.state.row) R.state.lines (s - 1) (i - 1)).state (provider_at R.state (i - 1)) (relay_step R (land s i)).1 x y
 BankStep puts removes R call x y = y ≡ x

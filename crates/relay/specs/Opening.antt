@@ -49,6 +49,6 @@ opened (Ok u) m nothing row seats lines = record { refusal = None; seat_count = 
 opened (Err e) m nothing row seats lines = record { refusal = Some e; seat_count = 0; state = record { seats = seats; lines = lines; row = row; lost = none_lost; looks = 0 } }
 
 -- The first m seats and the first k lines are blank, field by field, where `nothing` is the blank value.
-pub record FirstBlank {V : Type 0} (nothing : V) (m k : ℕ) (all_seats : List (Seat V)) (all_lines : List (Line V)) : Type 0 where
+pub record FirstRecordsBlank {V : Type 0} (nothing : V) (m k : ℕ) (all_seats : List (Seat V)) (all_lines : List (Line V)) : Type 0 where
   pub seats : take m all_seats ≡ replicate m (blank_seat_record nothing)
   pub lines : take k all_lines ≡ replicate k blank_line_record

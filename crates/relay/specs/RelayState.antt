@@ -43,10 +43,11 @@ admitted (Err e) call R = (R, refused e)
 abbrev pub relay_step : RelayState → Call → RelayState × Answer
 relay_step R call = admitted (admission R.refusal R.seat_count (length R.state.row) (length R.state.seats) (length R.state.lines)) call R
 
--- what a relay over a row of providers means, with its sheets, by the code of its values
+-- which providers are lost, by the relay's records
 abbrev pub lost_flags : Inner → List Bool
 lost_flags r = map (λ (p : ProviderRecord). p.lost) r.providers
 
+-- what a relay over a row of providers means, with its sheets, by the code of its values
 abbrev pub relay_state : {V : Type 0} → (V → List ℕ) → List Provider → Inner → List (Seat V) → List (Line V) → RelayState
 relay_state code row r seats lines = record { refusal = option_map refusal_number r.refused; seat_count = r.seats; state = sheets_state code seats lines row (lost_flags r) r.looks }
 

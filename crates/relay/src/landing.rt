@@ -5,7 +5,7 @@ ghost use Rattle.banks.specs.Row.{has, absent};
 ghost use Rattle.protocol.specs.Answers.{land as land_call};
 ghost use Rattle.protocol.specs.Requests.{reply, served};
 ghost use Rattle.records.specs.Means.{listed, answer_means, line_means, request_means};
-ghost use Rattle.relay.specs.BankSteps.{Carried, Lands, BankStep};
+ghost use Rattle.relay.specs.BankSteps.{RequestStep, LandStep, BankStep};
 ghost use Rattle.relay.specs.Effects.{Landed};
 ghost use Rattle.relay.specs.RelayState.{relay_means, relay_step, lost_flags, bank_of, inner_of};
 ghost use Rattle.relay.specs.Sheets.{acknowledged};
@@ -42,7 +42,7 @@ fn ask<V: Kind, B: Bank<V>>(
     requires fits { length (slice_index_or (B.Bank.row bank.old) (i - 1) absent).cells ≤ 32 }
     ensures answer { answer_means V.Kind.code result ≡ reply (request_means V.Kind.code request) (slice_index_or (B.Bank.row bank.old) (i - 1) absent) }
     ensures after { B.Bank.row bank.new ≡ slice_set (B.Bank.row bank.old) (i - 1) (served (request_means V.Kind.code request) (slice_index_or (B.Bank.row bank.old) (i - 1) absent)) }
-    ensures once { Carried B.Bank.puts B.Bank.removes i (request_means V.Kind.code request) (answer_means V.Kind.code result) bank.old bank.new }
+    ensures once { RequestStep B.Bank.puts B.Bank.removes i (request_means V.Kind.code request) (answer_means V.Kind.code result) bank.old bank.new }
 {
     match request {
         Request::List => Ok(Reply::Keys(ask_keys::<V, B>(bank, i))),
@@ -82,7 +82,7 @@ impl<V: Kind, B: Bank<V>> Relay<V, B> {
         requires provider { i < length (B.Bank.row (bank_of self.old)) }
         ensures landed { Landed i (lost_flags (inner_of self.old)) (B.Bank.row (bank_of self.old)) (line_means V.Kind.code line.old) (acknowledged result) (B.Bank.row (bank_of self.new)) (line_means V.Kind.code line.new) }
         ensures refusal { is_err result ≡ true → (line.new ≡ line.old) × (bank_of self.new ≡ bank_of self.old) }
-        ensures bank { Lands B.Bank.puts B.Bank.removes (i + 1) (line_means V.Kind.code line.old).state (slice_index_or (B.Bank.row (bank_of self.old)) i absent) (acknowledged result) (bank_of self.old) (bank_of self.new) }
+        ensures bank { LandStep B.Bank.puts B.Bank.removes (i + 1) (line_means V.Kind.code line.old).state (slice_index_or (B.Bank.row (bank_of self.old)) i absent) (acknowledged result) (bank_of self.old) (bank_of self.new) }
         ensures inner { inner_of self.new ≡ inner_of self.old }
     {
         if self.inner.is_lost(i) {

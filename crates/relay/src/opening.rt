@@ -2,7 +2,7 @@
 ghost use Rattle.std.specs.Prelude.{◌≡◌, ◌-◌, ◌*◌, ◌≤◌, true, length, drop, is_err, replicate, OnOk, slice_index_or};
 ghost use Rattle.values.specs.Refusals.{numbered};
 ghost use Rattle.banks.specs.Row.{has, absent, size_of};
-ghost use Rattle.relay.specs.Opening.{suits, is_empty, first_are, open_check, opened, FirstBlank};
+ghost use Rattle.relay.specs.Opening.{suits, is_empty, first_are, open_check, opened, FirstRecordsBlank};
 ghost use Rattle.relay.specs.RelayState.{relay_means, bank_of};
 ghost use Rattle.relay.specs.Sheets.{seats_mean, lines_mean};
 
@@ -87,7 +87,7 @@ pub fn open<V: Kind, B: Bank<V>>(
     ensures answer { numbered result.1 ≡ open_check m (B.Bank.row bank) (length seats.old) (length lines.old) }
     ensures bank { bank_of result.0 ≡ bank }
     ensures state { relay_means V.Kind.code B.Bank.row result.0 seats.new lines.new ≡ opened (open_check m (B.Bank.row bank) (length seats.old) (length lines.old)) m (V.Kind.code V.Kind.nothing) (B.Bank.row bank) (seats_mean V.Kind.code seats.old) (lines_mean V.Kind.code lines.old) }
-    ensures cleared { OnOk result.1 (FirstBlank V.Kind.nothing m (m * size_of (B.Bank.row bank)) seats.new lines.new) }
+    ensures cleared { OnOk result.1 (FirstRecordsBlank V.Kind.nothing m (m * size_of (B.Bank.row bank)) seats.new lines.new) }
     ensures beyond { (drop m seats.new ≡ drop m seats.old) × (drop (m * size_of (B.Bank.row bank)) lines.new ≡ drop (m * size_of (B.Bank.row bank)) lines.old) }
     ensures refusal { is_err result.1 ≡ true → (seats.new ≡ seats.old) × (lines.new ≡ lines.old) }
 {

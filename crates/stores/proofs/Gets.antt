@@ -34,8 +34,8 @@ law = record {
   put_here = λ p c ok. put_gets p c c.key (told_room (room_for c.key p) (sym ok)) ∙ cond-true (eqb c.key c.key) (Some c.pair) (get_answer c.key p) (eq-eqb c.key c.key refl);
   put_elsewhere = elsewhere;
   put_refused = λ p c full. full_after c p (told_full (room_for c.key p) (sym full));
-  removed_here = λ p k. remove_gets p k k ∙ cond-true (eqb k k) None (get_answer k p) (eq-eqb k k refl);
-  removed_elsewhere = λ p j k ne. remove_gets p j k ∙ cond-false (eqb j k) None (get_answer k p) (ne_eqb j k (λ e. ne (sym e)));
+  remove_here = λ p k. remove_gets p k k ∙ cond-true (eqb k k) None (get_answer k p) (eq-eqb k k refl);
+  remove_elsewhere = λ p j k ne. remove_gets p j k ∙ cond-false (eqb j k) None (get_answer k p) (ne_eqb j k (λ e. ne (sym e)));
 }
 
 -- a key that is absent is not among the first keys

@@ -24,8 +24,8 @@ copy_answer from to sheet = cond (nat_le (length from.cells) (length sheet)) (Ok
 abbrev pub copy_after : Provider → Provider → List Version → Provider
 copy_after from to sheet = cond (nat_le (length from.cells) (length sheet)) (put_all from.cells to) to
 
--- What a get answers of the other provider after a copy of n keys: under the first n keys of the one what that one
--- answers, and under any other key what it answered before.
+-- What a get of `to` answers after n keys of `from` were copied: under these keys what `from` answers, and under any other
+-- what `to` answered before.
 abbrev pub copied_answer : ℕ → Provider → Provider → ℕ → Option Pair
 copied_answer n from to k = cond (list_any (λ j. j == k) (take n (keys from))) (get_answer k from) (get_answer k to)
 

@@ -10,5 +10,5 @@ pub record MapLaw : Type 0 where
   -- after a put that finds none: what it was
   pub put_refused : (p : Provider) (c : Cell) → put_answer c p ≡ Err 15 → put_after c p ≡ p
   -- after a remove: nothing under its key, and what it was under every other
-  pub removed_here : (p : Provider) (k : ℕ) → get_answer k (remove_after k p) ≡ None
-  pub removed_elsewhere : (p : Provider) (j k : ℕ) → k ≢ j → get_answer k (remove_after j p) ≡ get_answer k p
+  pub remove_here : (p : Provider) (k : ℕ) → get_answer k (remove_after k p) ≡ None
+  pub remove_elsewhere : (p : Provider) (j k : ℕ) → k ≢ j → get_answer k (remove_after j p) ≡ get_answer k p

@@ -10,7 +10,7 @@ pub enum Refusal {
     // open: the number of seats is not 1 to 16, or there are more than 7 providers
     #[error("not 1 to 16 seats, or more than 7 providers")]
     UnsupportedSize = 1,
-    // a relay call: the sheet of seats or the sheet of lines is too short
+    // open, and any call of a relay but looks and shut: the sheet of seats or the sheet of lines is too short
     #[error("the sheet of seats or of lines is too short")]
     SheetTooShort = 2,
     // open: a provider's capacity is below the number of seats plus two, or above 32

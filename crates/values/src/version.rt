@@ -20,7 +20,7 @@ impl Version {
     pub const STANDING: Version = Version { number: 0, seat: 0 };
 
     // Does nothing. Its contract says what the two constants are: both are (0, 0).
-    pub fn constants_lawful()
+    pub fn constants_are_zero()
         ensures none { Self.NONE ≡ version_of 0 }
         ensures standing { Self.STANDING ≡ version_of 0 }
     {}

@@ -9,7 +9,7 @@ use Rattle.protocol.specs.State.{line_at, provider_at}
 use Rattle.protocol.specs.Steps.{outside}
 use Rattle.relay.specs.BankSteps.{LandStep, BankStep}
 use Rattle.relay.specs.Checks.{located}
-use Rattle.relay.specs.RelayState.{RelayState, relay_step, line_of}
+use Rattle.relay.specs.RelayState.{RelayState, relay_step, line_of, seat_of}
 use Rattle.relay.specs.Sheets.{acknowledged}
 use Rattle.relay.specs.declared.place.Place.{Place}
 use Rattle.relay.specs.declared.place.SeatPlace.{SeatPlace}
@@ -18,21 +18,30 @@ use Rattle.relay.proofs.Locating.{inside}
 abbrev place_over : ℕ → ℕ → SeatPlace
 place_over k s = record { seat = s - 1; start = (s - 1) * k; providers = k }
 
--- the provider of a line that was found
-pub provider_found : (A : Result ℕ ℕ) (m s i : ℕ) (at : Place) → Ok at ≡ line_of A m s i → at.provider + 1 ≡ i
-provider_found (Err e) m s i at eq = absurd (let z : ◌≡◌ {A = ℕ} 0 1 = cc in omega arith)
-provider_found (Ok k) m s i at eq = by (outside s m) eq
+-- the seat and the provider of a line that was found
+pub line_place : (A : Result ℕ ℕ) (m s i : ℕ) (at : Place) → Ok at ≡ line_of A m s i → (at.seat.seat ≡ s - 1) × (at.provider + 1 ≡ i)
+line_place (Err e) m s i at eq = absurd (let z : ◌≡◌ {A = ℕ} 0 1 = cc in omega arith)
+line_place (Ok k) m s i at eq = by (outside s m) eq
   where
-    of_line : (d : Bool) → outside i k ≡ d → ◌≡◌ {A = Result Place ℕ} (Ok at) (cond d (Err 6) (Ok (record { seat = place_over k s; provider = i - 1 }))) → at.provider + 1 ≡ i
+    of_line : (d : Bool) → outside i k ≡ d → ◌≡◌ {A = Result Place ℕ} (Ok at) (cond d (Err 6) (Ok (record { seat = place_over k s; provider = i - 1 }))) → (at.seat.seat ≡ s - 1) × (at.provider + 1 ≡ i)
     of_line true o eq = absurd (let z : ◌≡◌ {A = ℕ} 0 1 = cc in omega arith)
     of_line false o eq =
         let is : at ≡ record { seat = place_over k s; provider = i - 1 } = cc in
         let one = (inside i k o).0 in
-        omega (arith, ap (λ (a : Place). a.provider) is)
+        (ap (λ (a : Place). a.seat.seat) is, omega (arith, ap (λ (a : Place). a.provider) is))
 
-    by : (b : Bool) → ◌≡◌ {A = Result Place ℕ} (Ok at) (located (cond b (Err 5) (Ok (place_over k s))) i) → at.provider + 1 ≡ i
+    by : (b : Bool) → ◌≡◌ {A = Result Place ℕ} (Ok at) (located (cond b (Err 5) (Ok (place_over k s))) i) → (at.seat.seat ≡ s - 1) × (at.provider + 1 ≡ i)
     by true eq = absurd (let z : ◌≡◌ {A = ℕ} 0 1 = cc in omega arith)
     by false eq = of_line (outside i k) refl eq
+
+-- the place of a seat that was found
+pub seat_place : (A : Result ℕ ℕ) (m s : ℕ) (at : SeatPlace) → Ok at ≡ seat_of A m s → at.seat ≡ s - 1
+seat_place (Err e) m s at eq = absurd (let z : ◌≡◌ {A = ℕ} 0 1 = cc in omega arith)
+seat_place (Ok k) m s at eq = by (outside s m) eq
+  where
+    by : (b : Bool) → ◌≡◌ {A = Result SeatPlace ℕ} (Ok at) (cond b (Err 5) (Ok (place_over k s))) → at.seat ≡ s - 1
+    by true eq = absurd (let z : ◌≡◌ {A = ℕ} 0 1 = cc in omega arith)
+    by false eq = let is : at ≡ place_over k s = cc in ap (λ (a : SeatPlace). a.seat) is
 
 module _ {B : Type 0} (puts : B → ℕ → Cell → B → Type 0) (removes : B → ℕ → ℕ → B → Type 0) (x y : B) where
   lands_refused : (i : ℕ) (w : LineState) (p : Provider) (e : ℕ) → LandStep puts removes i w p (refused e) x x

@@ -1,6 +1,8 @@
 -- A seat and its own lines in the sheets: what a step of theirs is to the state of the sheets.
-use Rattle.std.proofs.Common.{◌≡◌, ℕ, ◌+◌, ◌*◌, ◌<◌, ◌≤◌, Bool, List, ◌++◌, length, get_or, take, drop, set, sym, ap, ◌∙◌, ap₂, arith, length-drop}
+use Rattle.std.proofs.Common.{◌≡◌, ℕ, ◌+◌, ◌-◌, ◌*◌, ◌<◌, ◌≤◌, Bool, List, ◌++◌, length, get_or, take, drop, set, is_err, Ok, Err, Result, sym, ap, ◌∙◌, ap₂, arith, length-drop}
 use Rattle.std.proofs.lemmas.List.{map-set, map-append, length-map, length-take-le, get_or-map, set-get_or, take-append-drop, drop-set-lt}
+use Rattle.std.specs.Result.{OnOk, IsErrAnd}
+use Rattle.std.proofs.lemmas.Bool.{true≢false}
 use Rattle.std.proofs.lemmas.Slice.{drop-put_mid}
 use borrow.Rule.Slice.PartMut.{put_mid}
 use Rattle.stores.specs.Provider.{Provider}
@@ -12,7 +14,7 @@ use Rattle.records.specs.Means.{line_means, seat_means}
 use Rattle.records.specs.declared.line.Line.{Line}
 use Rattle.records.specs.declared.seat.Seat.{Seat}
 use Rattle.relay.specs.Checks.{Within}
-use Rattle.relay.specs.Effects.{Others, among, Steps, BeyondAll}
+use Rattle.relay.specs.Effects.{Others, among, Steps, BeyondAll, WrittenAt, WrittenFrom, LineWritten}
 use Rattle.relay.specs.Sheets.{sheets_state, seats_mean, lines_mean}
 use Rattle.relay.specs.declared.place.SeatPlace.{SeatPlace}
 
@@ -89,3 +91,35 @@ module _ {V : Type 0} (code : V → List ℕ) (lines : List (Line V)) {m n seats
 -- a line that is written as it was read
 pub line_kept : {V : Type 0} (lines : List (Line V)) (k : ℕ) (x next : Line V) → next ≡ get_or lines k x → set lines k next ≡ lines
 line_kept lines k x next same = ap (set lines k) same ∙ set-get_or lines k x
+
+-- What a call writes of the sheets, where it was found which seat and which line it is about.
+module _ {V : Type 0} (lines : List (Line V)) {m n seats : ℕ} {at : SeatPlace} (w : Within m n seats (length lines) at) (s : ℕ) (same : at.seat ≡ s - 1) where
+  starts : at.start ≡ (s - 1) * n
+  starts = w.start ∙ ap₂ ◌*◌ same w.providers
+
+  pub line_written_at : (i k : ℕ) → k + 1 ≡ i → (next : Line V) → LineWritten n s i lines (set lines (at.start + k) next)
+  line_written_at i k here next =
+      let place : k ≡ i - 1 = omega arith in
+      (next, ap (λ j. set lines j next) (ap₂ ◌+◌ starts place))
+
+  pub lines_written : (k : ℕ) → k ≡ at.providers → (own : List (Line V)) → length own ≡ length (take k (drop at.start lines)) → WrittenFrom ((s - 1) * n) n lines (put_mid at.start k lines own)
+  lines_written k counts own long =
+      let all : length (take k (drop at.start lines)) ≡ k = length-take-le k (drop at.start lines) (omega (arith, length-drop at.start lines, w.end, w.lines, counts)) in
+      (own, (long ∙ (all ∙ (counts ∙ w.providers)), ap₂ (λ a b. take a lines ++ (own ++ drop b (drop a lines))) starts (counts ∙ w.providers)))
+
+pub seat_written_at : {V : Type 0} (seats : List (Seat V)) (k s : ℕ) → k ≡ s - 1 → (next : Seat V) → WrittenAt (s - 1) seats (set seats k next)
+seat_written_at seats k s same next = (next, ap (λ j. set seats j next) same)
+
+-- what holds in any case holds of an accepted result, and anything holds of the acceptance of a refused one
+pub if_ok : {T E : Type 0} {P : Type 0} (r : Result T E) → P → OnOk r P
+if_ok (Ok x) p = p
+if_ok (Err e) p = tt
+
+pub not_ok : {T E : Type 0} (P : Type 0) (Q : E → Type 0) (r : Result T E) → IsErrAnd r Q → OnOk r P
+not_ok P Q (Ok x) h = absurd h
+not_ok P Q (Err e) h = tt
+
+pub ok_alike : {S T E : Type 0} (P Q : Type 0) (r : Result S E) (q : Result T E) → is_err r ≡ is_err q → (P → Q) → OnOk q P → OnOk r Q
+ok_alike P Q (Ok x) (Ok y) same f h = f h
+ok_alike P Q (Ok x) (Err y) same f h = absurd (true≢false (sym same))
+ok_alike P Q (Err x) q same f h = tt

@@ -1,7 +1,7 @@
-use Rattle.std.specs.Prelude.{◌≡◌, ℕ, ◌*◌, ◌<◌, Bool, false, cond, List, ◌++◌, length, drop, Ok, Err, Result, slice_index_or, slice_set}
+use Rattle.std.specs.Prelude.{◌≡◌, ℕ, ◌+◌, ◌-◌, ◌*◌, ◌<◌, Bool, false, cond, List, ◌++◌, length, take, drop, Ok, Err, Result, slice_index_or, slice_set}
 use Rattle.stores.specs.Provider.{Provider}
 use Rattle.banks.specs.Row.{absent}
-use Rattle.protocol.specs.Answers.{Call, begin_write, begin_read, Answer, ok, refused}
+use Rattle.protocol.specs.Answers.{Call, begin_write, begin_read, post, land, fetch, stop, lose, Answer, ok, refused}
 use Rattle.protocol.specs.Lines as lin
 use Rattle.protocol.specs.Lines.{LineState, free, sent, answered}
 use Rattle.protocol.specs.Requests.{reply, served}
@@ -39,6 +39,31 @@ Steps code s step was were looked now_is now_are looks answer =
 pub record BeyondAll {V : Type 0} (m n : ℕ) (was : List (Seat V)) (were : List (Line V)) (now_is : List (Seat V)) (now_are : List (Line V)) : Type 0 where
   pub seats : drop m now_is ≡ drop m was
   pub lines : drop (m * n) now_are ≡ drop (m * n) were
+
+-- Of a sheet at most the record at place k was written; or at most the n records from place k on. All others are themselves as
+-- they were.
+abbrev pub WrittenAt : {X : Type 0} → ℕ → List X → List X → Type 0
+WrittenAt {X} k was now_is = (x : X) × (now_is ≡ slice_set was k x)
+
+abbrev pub WrittenFrom : {X : Type 0} → ℕ → ℕ → List X → List X → Type 0
+WrittenFrom {X} k n was now_is = (own : List X) × ((length own ≡ n) × (now_is ≡ take k was ++ (own ++ drop n (drop k was))))
+
+-- Seat s, and its lines at n providers, may be written; or its line at provider i alone. Both count from 1.
+abbrev pub SeatWritten : {V : Type 0} → ℕ → ℕ → List (Seat V) → List (Line V) → List (Seat V) → List (Line V) → Type 0
+SeatWritten n s was were now_is now_are = WrittenAt (s - 1) was now_is × WrittenFrom ((s - 1) * n) n were now_are
+
+abbrev pub LineWritten : {V : Type 0} → ℕ → ℕ → ℕ → List (Line V) → List (Line V) → Type 0
+LineWritten n s i were now_are = WrittenAt ((s - 1) * n + (i - 1)) were now_are
+
+-- what an accepted call may write of the sheets
+abbrev pub CallWrites : {V : Type 0} → ℕ → Call → List (Seat V) → List (Line V) → List (Seat V) → List (Line V) → Type 0
+CallWrites n (begin_write s x) was were now_is now_are = SeatWritten n s was were now_is now_are
+CallWrites n (begin_read s b) was were now_is now_are = SeatWritten n s was were now_is now_are
+CallWrites n (fetch s i) was were now_is now_are = SeatWritten n s was were now_is now_are
+CallWrites n (post s i) was were now_is now_are = (now_is ≡ was) × LineWritten n s i were now_are
+CallWrites n (land s i) was were now_is now_are = (now_is ≡ was) × LineWritten n s i were now_are
+CallWrites n (stop s) was were now_is now_are = WrittenAt (s - 1) was now_is × (now_are ≡ were)
+CallWrites n (lose i) was were now_is now_are = (now_is ≡ was) × (now_are ≡ were)
 
 -- what a seat begins, and by which call
 abbrev pub beginning_means : {V : Type 0} → (V → List ℕ) → Beginning V → Activity

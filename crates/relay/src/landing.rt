@@ -1,12 +1,12 @@
 // A request arrives at its provider.
-ghost use Rattle.std.specs.Prelude.{◌≡◌, ◌+◌, ◌-◌, ◌*◌, ◌<◌, ◌≤◌, true, length, drop, is_none, is_err, slice_index_or, slice_set};
+ghost use Rattle.std.specs.Prelude.{◌≡◌, ◌+◌, ◌-◌, ◌*◌, ◌<◌, ◌≤◌, true, length, drop, is_none, is_err, OnOk, slice_index_or, slice_set};
 ghost use Rattle.stores.specs.Provider.{keys};
 ghost use Rattle.banks.specs.Row.{has, absent};
 ghost use Rattle.protocol.specs.Answers.{land as land_call};
 ghost use Rattle.protocol.specs.Requests.{reply, served};
 ghost use Rattle.records.specs.Means.{listed, answer_means, line_means, request_means};
 ghost use Rattle.relay.specs.BankSteps.{RequestStep, LandStep, BankStep};
-ghost use Rattle.relay.specs.Effects.{Landed};
+ghost use Rattle.relay.specs.Effects.{LineWritten, Landed};
 ghost use Rattle.relay.specs.RelayState.{relay_means, relay_step, lost_flags, bank_of, inner_of};
 ghost use Rattle.relay.specs.Sheets.{acknowledged};
 
@@ -68,6 +68,7 @@ impl<V: Kind, B: Bank<V>> Relay<V, B> {
     ) -> Result<(), Refusal>
         ensures step { (relay_means V.Kind.code B.Bank.row self.new seats.now lines.new, acknowledged result) ≡ relay_step (relay_means V.Kind.code B.Bank.row self.old seats.now lines.old) (land_call seat provider) }
         ensures beyond { drop ((inner_of self.old).seats * length (B.Bank.row (bank_of self.old))) lines.new ≡ drop ((inner_of self.old).seats * length (B.Bank.row (bank_of self.old))) lines.old }
+        ensures others { OnOk result (LineWritten (length (B.Bank.row (bank_of self.old))) seat provider lines.old lines.new) }
         ensures refusal { is_err result ≡ true → (lines.new ≡ lines.old) × (bank_of self.new ≡ bank_of self.old) }
         ensures bank { BankStep B.Bank.puts B.Bank.removes (relay_means V.Kind.code B.Bank.row self.old seats.now lines.old) (land_call seat provider) (bank_of self.old) (bank_of self.new) }
         ensures inner { inner_of self.new ≡ inner_of self.old }

@@ -7,9 +7,9 @@ use Rattle.records.specs.Means.{line_means}
 use Rattle.relay.specs.RelayState.{RelayState, admission_of, relay_state, relay_step}
 use Rattle.relay.specs.Sheets.{lines_mean, acknowledged}
 use Rattle.relay.specs.declared.inner.Inner.{Inner}
-use Rattle.relay.proofs.BankSteps.{provider_found, not_landed, landed_there}
+use Rattle.relay.proofs.BankSteps.{line_place, not_landed, landed_there}
 use Rattle.relay.proofs.Landings.{landed_on}
-use Rattle.relay.proofs.Placing.{line_kept, line_within, line_read, line_written, line_beyond}
+use Rattle.relay.proofs.Placing.{line_kept, line_within, line_read, line_written, line_beyond, line_written_at, if_ok, not_ok}
 use Rattle.relay.proofs.RelaySteps.{call_refused, call_made, land_refused, land_found}
 use Rattle.relay.proofs.Rooms.{line_found, was_opened}
 use Rattle.relay.proofs.relay.Relay.land.Goals as goal
@@ -30,6 +30,9 @@ returns-in_err-at-clause-bank g c =
 pub land_line-requires-clause-accepted : goal.land_line-requires-clause-accepted
 land_line-requires-clause-accepted g c = was_opened c.args.self.now.inner.refused _ _ _ _ _ _ _ _ c.in_ok-at.ensures.answer
 
+pub returns-in_err-at-clause-others : goal.returns-in_err-at-clause-others
+returns-in_err-at-clause-others g c = not_ok _ _ c.from_residual.result c.from_residual.ensures.1
+
 pub returns : goal.returns
 returns g c =
     let code = g.V.Kind.code in
@@ -47,14 +50,15 @@ returns g c =
     ap f c.land_line.ensures.inner
     ∙ call_made code _ _ _ _ _ (landed_on _ _ _ _ _ _ _ (line_means code next) _ (line_read code _ w here x) c.land_line.ensures.landed (line_written code _ w here next))
     (land_found _ _ _ _ c.in_ok-at.at c.in_ok-at.ensures.answer) in
-    let found = provider_found (admission_of row c.args.self.now.inner (length c.args.seats.now) (length lines)) c.args.self.now.inner.seats c.args.seat c.args.provider c.in_ok-at.at c.in_ok-at.ensures.answer in
-    let place : c.in_ok-at.at.provider ≡ c.args.provider - 1 = omega (arith, found) in
+    let found = line_place (admission_of row c.args.self.now.inner (length c.args.seats.now) (length lines)) c.args.self.now.inner.seats c.args.seat c.args.provider c.in_ok-at.at c.in_ok-at.ensures.answer in
+    let place : c.in_ok-at.at.provider ≡ c.args.provider - 1 = omega (arith, found.1) in
     record {
       step = step;
       beyond = line_beyond code _ w here next;
+      others = if_ok c.land_line.result (line_written_at lines w c.args.seat found.0 c.args.provider c.in_ok-at.at.provider found.1 next);
       refusal = λ e. let same = c.land_line.ensures.refusal e in (line_kept lines i x next same.0, same.1);
       bank =
-          landed_there g.B.Bank.puts g.B.Bank.removes c.args.self.now.bank c.land_line.new.self.bank R S c.args.seat c.args.provider _ _ _ _ found
+          landed_there g.B.Bank.puts g.B.Bank.removes c.args.self.now.bank c.land_line.new.self.bank R S c.args.seat c.args.provider _ _ _ _ found.1
           (ap (λ (l : lin.Line). l.state) (line_read code _ w here x ∙ line_found _ _ _ _ _ (lines_mean code lines) c.in_ok-at.at w.providers c.in_ok-at.ensures.answer))
           (ap (λ k. get_or row k absent) place) step c.land_line.ensures.bank;
       inner = c.land_line.ensures.inner;

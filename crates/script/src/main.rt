@@ -12,7 +12,7 @@ use records::call::Exchange;
 use records::line::Line;
 use records::seat::Seat;
 use runs::run::run;
-use std::io::{BufRead, BufReader};
+use std::io::{BufRead, BufReader, BufWriter, Write};
 use std::str::from_utf8;
 use std::{fmt, io};
 use table::entry::Entry;
@@ -111,20 +111,21 @@ impl fmt::Display for Said {
     }
 }
 
-// Prints a line for each line of the script.
+// Prints a line for each line of the script, many in one write.
 fn print_answers(rt: &HostRuntime, script: &Script) -> io::Result<()> {
+    let mut out = BufWriter::new(rt.alloc(), rt.stdout())?;
     let mut exchanges = script.exchanges.iter();
     for form in &script.forms {
         match form {
-            Form::Bad => println!(rt; "bad")?,
+            Form::Bad => writeln!(out, "bad")?,
             Form::Call => {
                 if let Some(exchange) = exchanges.next() {
-                    println!(rt; "{}", Said(exchange.answer))?;
+                    writeln!(out, "{}", Said(exchange.answer))?;
                 }
             }
         }
     }
-    Ok(())
+    out.flush()
 }
 
 // A refused open would be the answer to each call; it is not told apart.

@@ -1,7 +1,7 @@
 #!/usr/bin/env python3
 """How many bytes of stack the calls of a relay take at most, ours and the hand-written one's, read off the machine code: a
 function's pushes, what it takes off the stack pointer and its return address, and the most that a function called by it takes.
-The C library's functions (memcpy and the like) are not counted."""
+The C library's functions (memcpy and the like), and what is called through a pointer, as Rust's panics are, are not counted."""
 import functools
 import os
 import re
@@ -25,7 +25,7 @@ def disassemble():
             own[name] += 8
         elif taken := re.search(r'\tsub +\$0x([0-9a-f]+),%rsp', line):
             own[name] += int(taken[1], 16)
-        elif (called := re.search(r'\t(?:call|jmp)\w* +[0-9a-f]+ <([^>+]*)>', line)) and '@plt' not in called[1]:
+        elif called := re.search(r'\t(?:call|jmp)\w* +[0-9a-f]+ <(.*?)(\+0x[0-9a-f]+)?>$', line):
             callees[name].add(called[1])
     return own, callees
 
@@ -39,8 +39,8 @@ def main():
 
     print('| call | ours | hand |\n|---|---|---|')
     for call in CALLS:
-        found = [name for name in own if call in name]
-        ours, hand = (max(most(name) for name in found if ('Office' in name) == by_hand) for by_hand in (False, True))
+        # rustc's own names are mangled
+        ours, hand = (max(most(name) for name in own if call in name and name.startswith('_ZN') == by_hand) for by_hand in (False, True))
         print(f'| {call} | {ours} | {hand} |')
 
 

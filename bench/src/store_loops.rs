@@ -52,9 +52,10 @@ fn gets<S: Store>(store: &S, at: u32, times: u64, zero: u32) -> u32 {
 }
 
 fn puts<S: Store>(store: &mut S, at: u32, times: u64, zero: u32) -> u32 {
+    let value = secret();
     let mut sum: u32 = 0;
     for _ in 0..times {
-        if call_put(store, key_of(at ^ (sum & zero)), secret()).is_ok() {
+        if call_put(store, key_of(at ^ (sum & zero)), value).is_ok() {
             sum = sum.wrapping_add(3);
         }
     }
@@ -62,9 +63,10 @@ fn puts<S: Store>(store: &mut S, at: u32, times: u64, zero: u32) -> u32 {
 }
 
 fn puts_and_removes<S: Store>(store: &mut S, at: u32, times: u64, zero: u32) -> u32 {
+    let value = secret();
     let mut sum: u32 = 0;
     for _ in 0..times {
-        if call_put(store, key_of(at ^ (sum & zero)), secret()).is_ok() {
+        if call_put(store, key_of(at ^ (sum & zero)), value).is_ok() {
             sum = sum.wrapping_add(3);
         }
         call_remove(store, key_of(at ^ (sum & zero)));

@@ -2,7 +2,8 @@
 """Instructions a call, by callgrind, of each case: ours, the hand-written one, and the ratio beside its goal.
 
 Each case is made N times and 3 N times; what is divided is the difference, so that start and set-up drop out.
-count.py [WORD]: only the cases whose names have the word. It needs `rt lib` in crates/bench and `cargo build --release` here."""
+count.py [WORD]: only the cases whose names have the word. It needs `rt lib` in crates/bench, and `cargo build --release`
+here."""
 import os
 import subprocess
 import sys
@@ -13,7 +14,12 @@ FOLDER = os.path.dirname(os.path.abspath(__file__))
 BENCH = os.path.join(FOLDER, 'target/release/bench')
 SIDES = 'ours', 'hand'
 # the parts of a round on a relay, each by the functions in which its calls stand, and its goal
-PARTS = {'begin': ('*call_begin_*', 2), 'post': ('*call_post*', None), 'land': ('*call_land*', None), 'fetch': ('*call_fetch*', 1.5)}
+PARTS = {
+    'begin': ('*call_begin_*', 2),
+    'post': ('*call_post*', None),
+    'land': ('*call_land*', None),
+    'fetch': ('*call_fetch*', 1.5),
+}
 WHOLE = 'relay: write, settled read'
 
 
@@ -43,7 +49,8 @@ def once(name, side, times, functions):
 def measure(job):
     name, part, side, times = job
     functions = PARTS[part][0] if part else None
-    instructions, calls, begun, rounds = (b - a for a, b in zip(once(name, side, times, functions), once(name, side, 3 * times, functions)))
+    few, many = once(name, side, times, functions), once(name, side, 3 * times, functions)
+    instructions, calls, begun, rounds = (b - a for a, b in zip(few, many))
     return instructions / (calls if not part else begun if part == 'begin' else rounds)
 
 

@@ -40,7 +40,8 @@ def main():
     print('| call | ours | hand |\n|---|---|---|')
     for call in CALLS:
         # rustc's own names are mangled
-        ours, hand = (max(most(name) for name in own if call in name and name.startswith('_ZN') == by_hand) for by_hand in (False, True))
+        found = [name for name in own if call in name]
+        ours, hand = (max(most(name) for name in found if name.startswith('_ZN') == mangled) for mangled in (False, True))
         print(f'| {call} | {ours} | {hand} |')
 
 

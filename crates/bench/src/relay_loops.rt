@@ -146,8 +146,8 @@ fn read<B: Bank<Secret>>(
     finish(relay, seats, lines, seat, tally);
 }
 
-// So many operations by the two seats in turn, after a first write: writes (kind 0), settled reads (1), plain reads (2), or each
-// time a write and then a settled read by the other seat.
+// So many operations by the two seats in turn, after a first write: writes (kind 0), settled reads (1), plain reads (2), or
+// each time a write and then a settled read by the other seat.
 fn operate<B: Bank<Secret>>(
     relay: &mut Relay<Secret, B>,
     seats: &mut [Seat<Secret>],

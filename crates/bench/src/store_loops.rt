@@ -1,5 +1,5 @@
-// Loops over one store, the same for the table and the log. Which key a call names depends on what the calls before it answered,
-// by `zero`, which is 0 and which the compiler does not know; so no call is moved out of its loop.
+// Loops over one store, the same for the table and the log. Which key a call names depends on what the calls before it
+// answered, by `zero`, which is 0 and which the compiler does not know; so no call is moved out of its loop.
 use journal::journal::Journal;
 use stores::store::Store;
 use stores::stored::Stored;

@@ -70,7 +70,7 @@ def main():
     for title, name, part, times, goal in rows:
         ours, hand = (counts[name, part, side, times] for side in SIDES)
         told = '' if goal is None else f'{goal}' if ours / hand <= goal else f'{goal}, not met'
-        print(f'| {title} | {ours:.0f} | {hand:.0f} | {ours / hand:.3f} | {told} |')
+        print(f'| {title} | {ours:.0f} | {hand:.0f} | {ours / hand:.2f} | {told} |')
 
 
 if __name__ == '__main__':

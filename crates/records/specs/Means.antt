@@ -1,4 +1,4 @@
-use Rattle.std.specs.Prelude.{ℕ, List, map, take, drop, Ok, Err, Result}
+use Rattle.std.specs.Prelude.{ℕ, Bool, false, List, map, take, drop, Ok, Err, Result}
 use Rattle.std.specs.Option.{option_map}
 use Rattle.values.specs.Rank.{rank}
 use Rattle.values.specs.declared.version.Version.{Version}
@@ -8,8 +8,10 @@ use Rattle.stores.specs.Provider.{cell}
 use Rattle.stores.specs.Operations.{pair_means}
 use Rattle.protocol.specs.Answers as ans
 use Rattle.protocol.specs.Lines as lin
+use Rattle.protocol.specs.Moves.{advance}
 use Rattle.protocol.specs.Requests as req
 use Rattle.protocol.specs.Seats as sea
+use Rattle.protocol.specs.Seats.{Activity}
 use Rattle.records.specs.declared.answer.Answer.{Answer}
 use Rattle.records.specs.declared.answer.Answer.TheVariants as said
 use Rattle.records.specs.declared.call.Call.{Call}
@@ -57,11 +59,22 @@ transit_means code tra.Free = lin.free
 transit_means code (tra.Sent b q) = lin.sent b (request_means code q)
 transit_means code (tra.Answered b r) = lin.answered b (answer_means code r)
 
+-- whether what is on the way is stale; nothing is not
+abbrev pub is_stale : lin.LineState → Bool
+is_stale lin.free = false
+is_stale (lin.sent b q) = b
+is_stale (lin.answered b r) = b
+
 abbrev pub progress_means : {V : Type 0} → (V → List ℕ) → Line V → lin.Progress
 progress_means code l = record { stage = l.stage; done = l.done; mark = rank l.mark; older = listed l.older; largest = rank l.largest; found = option_map (pair_means code) l.found }
 
 abbrev pub line_means : {V : Type 0} → (V → List ℕ) → Line V → lin.Line
 line_means code l = record { state = transit_means code l.transit; progress = progress_means code l }
+
+-- how far a line is once the answer that it has is taken; without one it stays where it is
+abbrev pub advance_own : Activity → lin.LineState → lin.Progress → lin.Progress
+advance_own a (lin.answered b r) p = advance a r p
+advance_own a x p = p
 
 -- what a call and its answer mean
 abbrev pub call_means : {V : Type 0} → (V → List ℕ) → Call V → ans.Call

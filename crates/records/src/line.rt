@@ -6,7 +6,7 @@ ghost use Rattle.std.specs.Option.{option_map};
 ghost use Rattle.values.specs.Rank.{rank};
 ghost use Rattle.stores.specs.Operations.{pair_means};
 ghost use Rattle.records.specs.Blanks.{blank_line_record};
-ghost use Rattle.records.specs.Means.{line_means, transit_means, progress_means, request_means, answer_means};
+ghost use Rattle.records.specs.Means.{line_means, transit_means, progress_means, request_means, answer_means, is_stale};
 
 use crate::key_list::KeyList;
 use protocol::stage::Stage;
@@ -63,16 +63,29 @@ pub struct Line<V> {
 }
 
 impl<V: Kind> Transit<V> {
-    // The same once its phase is over: stale, if there is anything.
+    // Whether what is on the way is stale. Nothing is not.
+    pub fn is_stale(&self) -> bool
+        ensures { result ≡ is_stale (transit_means V.Kind.code self.now) }
+    {
+        match self {
+            Transit::Free => false,
+            Transit::Sent { stale, .. } => *stale,
+            Transit::Answered { stale, .. } => *stale,
+        }
+    }
+
+    // The same once its phase is over: stale, if there is anything. (The flag alone is written: a match that put the case together
+    // again would copy the request or the answer, at each begin, of every line of the seat.)
     fn stale(self) -> Transit<V>
         ensures { transit_means V.Kind.code result ≡ stale_state (transit_means V.Kind.code self) }
     {
-        let stale = true;
-        match self {
-            Transit::Free => Transit::Free,
-            Transit::Sent { request, .. } => Transit::Sent { stale, request },
-            Transit::Answered { answer, .. } => Transit::Answered { stale, answer },
+        let mut transit = self;
+        match &mut transit {
+            Transit::Free => {}
+            Transit::Sent { stale, .. } => *stale = true,
+            Transit::Answered { stale, .. } => *stale = true,
         }
+        transit
     }
 }
 
@@ -110,12 +123,20 @@ impl<V: Kind> Line<V> {
         Line { transit, ..self }
     }
 
-    // The line with an answer, which is stale if its request was.
+    // The line with an answer, stale or not.
     pub fn answered(self, stale: bool, answer: Result<Reply<V>, Refusal>) -> Line<V>
         ensures { line_means V.Kind.code result ≡ record { state = lin.answered stale (answer_means V.Kind.code answer); progress = progress_means V.Kind.code self } }
     {
         let transit = Transit::Answered { stale, answer };
         Line { transit, ..self }
+    }
+
+    // The line with the answer to the request that it has on the way, as stale as that was.
+    pub fn landed(self, answer: Result<Reply<V>, Refusal>) -> Line<V>
+        ensures { line_means V.Kind.code result ≡ record { state = lin.answered (is_stale (line_means V.Kind.code self).state) (answer_means V.Kind.code answer); progress = progress_means V.Kind.code self } }
+    {
+        let stale = self.transit.is_stale();
+        self.answered(stale, answer)
     }
 
     // The line after a phase of its seat started or its operation ended.

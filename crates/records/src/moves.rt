@@ -6,10 +6,10 @@ ghost use Rattle.protocol.specs.Lines as lin;
 ghost use Rattle.protocol.specs.Moves.{to_stage, finished, finished_with, keep_list, remove_or_put, after_list, advance_listing, advance_storing, gather_list, gather_largest, gather_standing, advance_gathering, set_mark, advance};
 ghost use Rattle.protocol.specs.Seats.{activity};
 ghost use Rattle.protocol.specs.Steps.{looks_after};
-ghost use Rattle.records.specs.Means.{listed, line_means, progress_means, answer_means, seat_means};
+ghost use Rattle.records.specs.Means.{listed, line_means, progress_means, answer_means, seat_means, advance_own};
 
 use crate::key_list::KeyList;
-use crate::line::{Line, Reply};
+use crate::line::{Line, Reply, Transit};
 use crate::seat::Seat;
 use protocol::phase::Phase;
 use protocol::stage::Stage;
@@ -193,6 +193,17 @@ impl<V: Kind> Line<V> {
             Phase::Idle | Phase::Stopped => self,
         };
         moved.freed()
+    }
+
+    // The line once the answer that it has is taken. A line that has none is freed, and stays as far as it is.
+    pub fn fetched(self, seat: &Seat<V>) -> Line<V>
+        ensures { line_means V.Kind.code result ≡ record { state = lin.free; progress = advance_own (activity (seat_means V.Kind.code seat.now)) (line_means V.Kind.code self).state (progress_means V.Kind.code self) } }
+    {
+        let transit = self.transit;
+        match transit {
+            Transit::Answered { answer, .. } => self.advanced(seat, answer),
+            Transit::Free | Transit::Sent { .. } => self.freed(),
+        }
     }
 
     // The count of second looks, once this line has moved on to that one.

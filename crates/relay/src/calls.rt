@@ -65,7 +65,9 @@ impl<V: Kind, B: Bank<V>> Relay<V, B> {
     }
 
     // A seat begins an operation. (`beyond` and `refusal` stand here and at the two calls below: they are what each of them
-    // promises, in full, and a name for both would have to be looked up at each.)
+    // promises, in full, and a name for both would have to be looked up at each. It is put into its callers: by itself it would copy
+    // the seat's record to make another of it, whichever operation begins.)
+    #[inline(always)]
     fn begin(
         &self,
         seats: &mut [Seat<V>],

@@ -92,9 +92,9 @@ impl<V: Kind, B: Bank<V>> Relay<V, B> {
         let transit = line.transit;
         match transit {
             Transit::Free | Transit::Answered { .. } => Err(Refusal::LineNotSent),
-            Transit::Sent { stale, request } => {
+            Transit::Sent { request, .. } => {
                 let answer = ask::<V, B>(&mut self.bank, i + 1, request);
-                *line = line.answered(stale, answer);
+                *line = line.landed(answer);
                 Ok(())
             }
         }

@@ -101,7 +101,7 @@ impl Kind for Secret {
         }
     }
 
-    #[tactic(auto, using(crate::proofs::SecretSheets::written))]
+    #[tactic(auto, using(crate::proofs::SecretSheets::written_secret))]
     fn write(&self, sheet: &mut [u8]) -> Result<(), Refusal> {
         if sheet.len() != Self::WIDTH {
             return Err(Refusal::UnfitBytes);

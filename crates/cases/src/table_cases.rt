@@ -58,6 +58,8 @@ fn a_table_of_one_entry_replaces_and_refuses(rt: HostRuntime) -> Result<(), Fail
     table.remove(key(1));
     assert_eq!(rt; table.count(), 0);
     assert_eq!(rt; entries[0], Entry::blank());
+    assert_eq!(rt; entries[0].key, Key::STANDING);
+    assert_eq!(rt; entries[0].value, Hold::Free);
     Ok(())
 }
 
@@ -110,6 +112,8 @@ fn a_table_of_40_entries_never_touches_the_last_8(rt: HostRuntime) {
     assert_eq!(rt; entries[0].key, key(2));
     assert_eq!(rt; entries[30].key, key(32));
     assert_eq!(rt; entries[31], Entry::blank());
+    assert_eq!(rt; entries[31].key, Key::STANDING);
+    assert_eq!(rt; entries[31].value, Hold::Free);
     assert_eq!(rt; entries[32], USED);
     assert_eq!(rt; entries[39], USED);
 }

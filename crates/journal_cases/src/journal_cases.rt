@@ -147,6 +147,8 @@ fn values_of_both_kinds_are_read_back(rt: HostRuntime) -> Result<(), Fail> {
     let (secret, hold) = (Secret::new(b"open sesame")?, Hold::new(3, 10, 20)?);
     assert!(rt; read_back(&mut bytes, secret) == Some(secret));
     assert_eq!(rt; read_back(&mut bytes, hold), Some(hold));
+    assert!(rt; secret.as_bytes() == b"open sesame".as_slice());
+    assert!(rt; hold.covers(10) && hold.covers(20) && !hold.covers(9) && !hold.covers(21));
     Ok(())
 }
 

@@ -59,7 +59,7 @@ transit_means code tra.Free = lin.free
 transit_means code (tra.Sent b q) = lin.sent b (request_means code q)
 transit_means code (tra.Answered b r) = lin.answered b (answer_means code r)
 
--- whether what is on the way is stale; nothing is not
+-- whether what is on the way is stale; where nothing is, it is not
 abbrev pub is_stale : lin.LineState → Bool
 is_stale lin.free = false
 is_stale (lin.sent b q) = b

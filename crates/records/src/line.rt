@@ -63,7 +63,7 @@ pub struct Line<V> {
 }
 
 impl<V: Kind> Transit<V> {
-    // Whether what is on the way is stale. Nothing is not.
+    // Whether what is on the way is stale. (Where nothing is on the way, the answer is no.)
     pub fn is_stale(&self) -> bool
         ensures { result ≡ is_stale (transit_means V.Kind.code self.now) }
     {
@@ -75,7 +75,7 @@ impl<V: Kind> Transit<V> {
     }
 
     // The same once its phase is over: stale, if there is anything. (The flag alone is written: a match that put the case together
-    // again would copy the request or the answer, at each begin, of every line of the seat.)
+    // again would copy the request or the answer of each line of a seat, whenever a phase of the seat begins or ends.)
     fn stale(self) -> Transit<V>
         ensures { transit_means V.Kind.code result ≡ stale_state (transit_means V.Kind.code self) }
     {
